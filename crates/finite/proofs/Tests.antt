@@ -1,0 +1,28 @@
+-- Tests that agree: two that hold together are equal, and what a conjunction of tests says.
+-- Assumes nothing.
+use mathlib.Core.Path.{_≡_, refl, sym, _∙_}
+use mathlib.Core.Logic.{_↔_, by-cases}
+use mathlib.Core.Bool.{Bool, true, false, _&&_, not}
+use Prim.Native.Nat.{ℕ, _<_}
+use native.Mathlib.Decide.{ℕ-discrete}
+use borrow.Author.Tests.{eq-eqb, ne-eqb}
+use lib.Dec.{T, eqb}
+
+-- two tests that hold together are equal
+pub agree : (a b : Bool) → (T a → T b) → (T b → T a) → a ≡ b
+agree true true to from = refl
+agree true false to from = absurd (to tt)
+agree false true to from = absurd (from tt)
+agree false false to from = refl
+
+-- the same of two equations
+pub eqb-agree : (a b c d : ℕ) → (a ≡ b → c ≡ d) → (c ≡ d → a ≡ b) → eqb a b ≡ eqb c d
+eqb-agree a b c d to from =
+    by-cases (ℕ-discrete a b)
+    (λ e. eq-eqb a b e ∙ sym (eq-eqb c d (to e)))
+    (λ n. ne-eqb a b n ∙ sym (ne-eqb c d (λ e. n (from e))))
+
+-- both tests hold
+pub T-and : (a b : Bool) → T (a && b) ↔ (T a × T b)
+T-and true b = (λ t. (tt, t), λ p. p .1)
+T-and false b = (λ t. absurd t, λ p. p .0)
