@@ -36,6 +36,11 @@ pub count-all : (n : ℕ) {f : ℕ → Bool} → ((i : ℕ) → i < n → f i �
 unfolding count
 count-all n e = sum-ext n (λ i h. ap bit (e i h)) ∙ sum-const n 1 ∙ mul-one n
 
+-- no number passes
+pub count-never : (n : ℕ) {f : ℕ → Bool} → ((i : ℕ) → i < n → f i ≡ false) → count n f ≡ 0
+unfolding count
+count-never n e = sum-zero n (λ i h. ap bit (e i h))
+
 pub count-le : (n : ℕ) (f : ℕ → Bool) → count n f ≤ n
 count-le zero f = rw count-none (le-refl 0)
 count-le (suc n) f = rw count-suc (omega (arith, count-le n f, bit-le (f n)))

@@ -1,11 +1,11 @@
 -- What `first` finds: nothing where there is nothing, and otherwise what stands at the least number with something.
 -- Assumes nothing.
-use mathlib.Core.Path.{_≡_, refl, sym, _∙_, subst}
+use mathlib.Core.Path.{_≡_, refl, sym, _∙_, subst, ap₂}
 use mathlib.Core.Logic.{_⊎_, inl, inr, ⊎-elim}
 use mathlib.Core.Option.{Option, none, some, Option·none-ne-some, Option·some-injective}
 use Prim.Native.Nat.{ℕ, zero, suc, _<_}
 use native.Mathlib.Nat.{le-step, lt-suc-self, le-of-suc-le-suc, eq-or-lt-of-le, not-suc-le-zero}
-use Rattle.finite.specs.First.{first}
+use Rattle.finite.specs.First.{first, _orElse_}
 
 module _ {A : Type 0} (f : ℕ → Option A) where
   pub first-none : (n : ℕ) → ((i : ℕ) → i < n → f i ≡ none) → first n f ≡ none
@@ -58,3 +58,9 @@ module _ {A : Type 0} (f : ℕ → Option A) where
       (λ z. absurd (Option·none-ne-some a (sym (first-none n z) ∙ e)))
       (λ l. subst (Least n) (Option·some-injective (l .0) a (sym (first-least n (l .0) (l .1)) ∙ e)) (l .1))
       (search-below n)
+
+-- what agrees below n finds the same
+pub first-ext : {A : Type 0} (n : ℕ) {f g : ℕ → Option A} → ((i : ℕ) → i < n → f i ≡ g i) → first n f ≡ first n g
+unfolding first
+first-ext zero e = refl
+first-ext (suc n) e = ap₂ _orElse_ (first-ext n (λ i h. e i (le-step h))) (e n (lt-suc-self n))

@@ -26,3 +26,10 @@ eqb-agree a b c d to from =
 pub T-and : (a b : Bool) → T (a && b) ↔ (T a × T b)
 T-and true b = (λ t. (tt, t), λ p. p .1)
 T-and false b = (λ t. absurd t, λ p. p .0)
+
+-- an equation that holds just where two others do
+pub eqb-and-agree : (a b c d e f : ℕ) → (a ≡ b → (c ≡ d) × (e ≡ f)) → (c ≡ d → e ≡ f → a ≡ b) → eqb a b ≡ (eqb c d && eqb e f)
+eqb-and-agree a b c d e f to from =
+    by-cases (ℕ-discrete c d)
+    (λ (p : c ≡ d). rw (eq-eqb c d p) (eqb-agree a b e f (λ q. to q .1) (from p)))
+    (λ (n : c ≡ d → ⊥). rw (ne-eqb c d n) (ne-eqb a b (λ q. n (to q .0))))

@@ -1,0 +1,91 @@
+-- What a deviation from an even count says: none where every value stands in its share of the runs, else the lowest that does not.
+-- Assumes nothing.
+use mathlib.Core.Path.{_≡_, refl, sym, _∙_, ap, subst}
+use mathlib.Core.Bool.{Bool, true, false, cond}
+use mathlib.Core.Logic.{_≢_}
+use mathlib.Core.Option.{Option, none, some, Option·none-ne-some, Option·some-injective}
+use Prim.Native.Nat.{ℕ, _*_, _<_}
+use native.Mathlib.Omega.{arith}
+use lib.Dec.{eqb}
+use borrow.Author.Tests.{eq-eqb, ne-eqb, eqb-true, eqb-false}
+use Rattle.finite.specs.First.{first}
+use Rattle.finite.proofs.Firsts.{first-ext, first-none, first-at, none-below, found-least, Least}
+use Rattle.counting.specs.Verdict.{Counted, deviation, asDeviation, tableFinding}
+use Rattle.counting.specs.declared.verdict.Deviation.the-variants.{At, Nowhere}
+use Rattle.counting.specs.declared.verdict.TableFault.{TableFault}
+use Rattle.counting.specs.declared.verdict.TableFinding.the-variants.{Passes, Fails}
+
+-- nothing where the test passes, and what stands there where it does not
+cond-none : {A : Type 0} (b : Bool) (a : A) → cond b none (some a) ≡ none → b ≡ true
+cond-none true a e = refl
+cond-none false a e = absurd (Option·none-ne-some a (sym e))
+
+cond-some : {A : Type 0} (b : Bool) (x a : A) → cond b none (some x) ≡ some a → (b ≡ false) × (x ≡ a)
+cond-some true x a e = absurd (Option·none-ne-some a e)
+cond-some false x a e = (refl, Option·some-injective x a e)
+
+module _ (n N : ℕ) (timesOf : ℕ → ℕ) where
+  pub deviation-none : ((v : ℕ) → v < n → n * timesOf v ≡ N) → deviation n N timesOf ≡ none
+  unfolding deviation
+  deviation-none even = first-none _ n (λ v h. rw (eq-eqb (n * timesOf v) N (even v h)))
+
+  pub deviation-at : (k : ℕ) → k < n → ((v : ℕ) → v < k → n * timesOf v ≡ N) → (n * timesOf k ≡ N → ⊥)
+      → deviation n N timesOf ≡ some (record { value = k; times = timesOf k })
+  unfolding deviation
+  deviation-at k h even odd =
+      first-at _ n k _ h (λ v l. rw (eq-eqb (n * timesOf v) N (even v l))) (rw (ne-eqb (n * timesOf k) N odd))
+
+  pub none-even : deviation n N timesOf ≡ none → (v : ℕ) → v < n → n * timesOf v ≡ N
+  unfolding deviation
+  none-even e v h = eqb-true (n * timesOf v) N (cond-none _ _ (none-below _ n e v h))
+
+  -- the value named is uneven, its times are its count, and every lower value is even
+  pub record Lowest (x : Counted) : Type 0 where
+    pub below : x .value < n
+    pub counted : x .times ≡ timesOf (x .value)
+    pub uneven : n * timesOf (x .value) ≢ N
+    pub before : (v : ℕ) → v < x .value → n * timesOf v ≡ N
+
+  pub some-lowest : (x : Counted) → deviation n N timesOf ≡ some x → Lowest x
+  unfolding deviation
+  some-lowest x e =
+      let l = found-least _ n x e in
+      let p = cond-some _ _ x (l .there) in
+      subst Lowest (p .1)
+      (record {
+        below = l .below;
+        counted = refl;
+        uneven = eqb-false _ _ (p .0);
+        before = λ v h. eqb-true _ _ (cond-none _ _ (l .before v h));
+      })
+
+pub deviation-ext : (n N : ℕ) {f g : ℕ → ℕ} → ((v : ℕ) → v < n → f v ≡ g v) → deviation n N f ≡ deviation n N g
+unfolding deviation
+deviation-ext n N e = first-ext n (λ v h. rw (e v h))
+
+-- a value named is not none
+pub at-not-nowhere : (v t : ℕ) → At v t ≡ Nowhere → ⊥
+at-not-nowhere v t e = let z : _≡_ {A = ℕ} 0 1 = cc in omega arith
+
+-- the enum says what the search found
+pub at-some : (o : Option Counted) (v t : ℕ) → At v t ≡ asDeviation o → o ≡ some (record { value = v; times = t })
+at-some none v t e = absurd (at-not-nowhere v t e)
+at-some (some x) v t e =
+    let p : v ≡ x .value = cc in
+    let q : t ≡ x .times = cc in
+    λ i. some (record { value = sym p i; times = sym q i })
+
+pub nowhere-none : (o : Option Counted) → Nowhere ≡ asDeviation o → o ≡ none
+nowhere-none none e = refl
+nowhere-none (some x) e = absurd (at-not-nowhere _ _ (sym e))
+
+pub fails-not-passes : (f : TableFault) → Fails f ≡ Passes → ⊥
+fails-not-passes f e = let z : _≡_ {A = ℕ} 0 1 = cc in omega arith
+
+pub fails-some : (o : Option TableFault) (f : TableFault) → Fails f ≡ tableFinding o → o ≡ some f
+fails-some none f e = absurd (fails-not-passes f e)
+fails-some (some g) f e = let p : f ≡ g = cc in ap some (sym p)
+
+pub passes-none : (o : Option TableFault) → Passes ≡ tableFinding o → o ≡ none
+passes-none none e = refl
+passes-none (some g) e = absurd (fails-not-passes g (sym e))

@@ -1,0 +1,5 @@
+pub mod Fits
+pub mod Deviations
+pub mod Tallies
+pub mod TableKeys
+pub mod TableVerdicts

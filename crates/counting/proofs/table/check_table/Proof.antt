@@ -1,0 +1,56 @@
+use mathlib.Core.Path.{refl, sym, _∙_, ap}
+use Rattle.counting.specs.declared.verdict.TableFinding.{TableFinding}
+use Rattle.counting.specs.declared.verdict.TableVerdict.{TableVerdict}
+use Rattle.counting.proofs.Deviations.{fails-some, passes-none}
+use Rattle.counting.proofs.Tallies.{cleared-made}
+use Rattle.counting.proofs.TableVerdicts.{verdict-column, verdict-pairs}
+use borrow.Author.Needs.{needs}
+use Rattle.counting.proofs.table.check_table.Statement.{statement}
+use Rattle.counting.proofs.table.check_table.Tie as tie
+use Rattle.counting.proofs.table.check_table.Reads as reads
+use Rattle.counting.proofs.table.check_table.Lts as lts
+use Rattle.counting.proofs.table.uneven_column.Reads as uneven-column-reads
+use Rattle.counting.proofs.table.uneven_pair.Reads as uneven-pair-reads
+
+slice-aggregate-uneven-column : tie.Need-slice-aggregate-uneven-column
+slice-aggregate-uneven-column c = search needs
+
+uneven-column-requires : tie.Need-uneven-column-requires
+uneven-column-requires c κs = (c .before .before .before .pre, cleared-made 4096 refl)
+
+enum-known-finding : tie.Need-enum-known-finding
+enum-known-finding c = search needs
+
+enum-told : tie.Need-enum-told
+enum-told c = search needs
+
+slice-aggregate-uneven-pair : tie.Need-slice-aggregate-uneven-pair
+slice-aggregate-uneven-pair c = search needs
+
+uneven-pair-requires : tie.Need-uneven-pair-requires
+uneven-pair-requires c κs = (c .before .before .before .before .before .before .before .before .pre, c .before .before .before .before .uneven-column .ensures .1 (c .before .enum-told .given .1))
+
+returns : tie.Need-returns
+returns c =
+    verdict-column _ _ (fails-some _ _ (sym (c .before .finding .given .1) ∙ c .before .before .before .before .uneven-column .ensures .0))
+
+returns-2 : tie.Need-returns-2
+returns-2 c =
+    ap verdict (c .before .uneven-pair .ensures)
+    ∙ verdict-pairs _ (passes-none _ (sym (c .before .before .before .enum-told .given .1) ∙ c .before .before .before .before .before .before .uneven-column .ensures .0))
+  where
+    verdict : TableFinding → TableVerdict
+    verdict f = record { finding = f }
+
+pub check-table-spec : {M : Type 1} → statement M
+check-table-spec =
+    tie.close
+    (tie.spec
+    slice-aggregate-uneven-column
+    uneven-column-requires
+    enum-known-finding
+    enum-told
+    slice-aggregate-uneven-pair
+    uneven-pair-requires
+    returns
+    returns-2)

@@ -1,0 +1,13 @@
+-- What the checks take: cells in bytes, within 01's limits on sizes, every entry in its range (question 3 comes before question 4).
+use Prim.Native.Nat.{ℕ, _*_, _≤_, _<_}
+use mathlib.Core.List.{List}
+use lib.ListN.{length, getD}
+use Rattle.counting.specs.Table.{tableOf, InRange}
+
+-- the bytes hold the runs of a table
+pub record CheckableTable (cells levels : List ℕ) (runs : ℕ) : Type 0 where
+  pub whole : runs * length levels ≤ length cells
+  pub few : runs ≤ 512
+  pub levels-from : (c : ℕ) → c < length levels → 2 ≤ getD levels c 0
+  pub levels-to : (c : ℕ) → c < length levels → getD levels c 0 ≤ 64
+  pub in-range : InRange (tableOf cells levels runs)

@@ -1,0 +1,73 @@
+-- The verdicts on a table and on a difference matrix, with the first failure: document 01, question 4.
+use mathlib.Core.Bool.{cond}
+use mathlib.Core.List.{List, [], _∷_}
+use mathlib.Core.Option.{Option, none, some, Option·map}
+use Prim.Native.Nat.{ℕ, _+_, _*_, _/_, _%_}
+use lib.Dec.{eqb, ltb}
+use Rattle.finite.specs.First.{first, _orElse_}
+use Rattle.counting.specs.Table.{Table, columns, levelsOf, Setting, times}
+use Rattle.counting.specs.declared.verdict.Deviation.{Deviation}
+use Rattle.counting.specs.declared.verdict.Deviation.the-variants.{Nowhere, At}
+use Rattle.counting.specs.declared.verdict.TableFault.{TableFault}
+use Rattle.counting.specs.declared.verdict.TableFault.the-variants.{Column, Pair}
+use Rattle.counting.specs.declared.verdict.TableFinding.{TableFinding}
+use Rattle.counting.specs.declared.verdict.TableFinding.the-variants.{Passes, Fails}
+use Rattle.counting.specs.declared.verdict.TableVerdict.{TableVerdict}
+
+-- a value with the number of runs in which it stands
+pub record Counted : Type 0 where
+  pub value : ℕ
+  pub times : ℕ
+
+-- the lowest of n values that does not stand in exactly N ÷ n of N runs: "passes" is n × times = N
+unfoldable pub deviation : ℕ → ℕ → (ℕ → ℕ) → Option Counted
+deviation n N timesOf =
+    first n (λ v. cond (eqb (n * timesOf v) N) none (some (record { value = v; times = timesOf v })))
+
+-- the lowest uneven level of column c
+unfoldable pub columnDeviation : Table → ℕ → Option Counted
+columnDeviation T c =
+    deviation (levelsOf T c) (T .runs) (λ x. times T (record { column = c; level = x } ∷ []))
+
+-- columns are named from 1
+abbrev pub columnFault : Table → ℕ → Option TableFault
+columnFault T c = Option·map (λ (x : Counted). Column (c + 1) (x .value) (x .times)) (columnDeviation T c)
+
+-- pair number v of the levels of columns c and d: they go 00, 01, .., the level of c leading
+abbrev pub pairAt : Table → ℕ → ℕ → ℕ → List Setting
+pairAt T c d v =
+    record { column = c; level = v / levelsOf T d } ∷ record { column = d; level = v % levelsOf T d } ∷ []
+
+-- the lowest uneven pair of levels of columns c and d
+unfoldable pub pairDeviation : Table → ℕ → ℕ → Option Counted
+pairDeviation T c d = deviation (levelsOf T c * levelsOf T d) (T .runs) (λ v. times T (pairAt T c d v))
+
+abbrev pub pairFault : Table → ℕ → ℕ → Option TableFault
+pairFault T c d =
+    Option·map
+    (λ (x : Counted). Pair (c + 1) (d + 1) (x .value / levelsOf T d) (x .value % levelsOf T d) (x .times))
+    (pairDeviation T c d)
+
+-- the first failure of a column
+unfoldable pub columnsFault : Table → Option TableFault
+columnsFault T = first (columns T) (columnFault T)
+
+-- the first failure of column c with a later one
+unfoldable pub partnersFault : Table → ℕ → Option TableFault
+partnersFault T c = first (columns T) (λ d. cond (ltb c d) (pairFault T c d) none)
+
+-- the first failure of two columns, in the order 1-2, 1-3, .., 2-3, ..
+unfoldable pub pairsFault : Table → Option TableFault
+pairsFault T = first (columns T) (partnersFault T)
+
+abbrev pub tableFinding : Option TableFault → TableFinding
+tableFinding none = Passes
+tableFinding (some fault) = Fails fault
+
+-- columns are tried before pairs
+unfoldable pub tableVerdict : Table → TableVerdict
+tableVerdict T = record { finding = tableFinding (columnsFault T orElse pairsFault T) }
+
+abbrev pub asDeviation : Option Counted → Deviation
+asDeviation none = Nowhere
+asDeviation (some x) = At (x .value) (x .times)

@@ -1,0 +1,4 @@
+// Verdicts on the ingredients of an order: a table, a difference matrix, a generator.
+pub mod table;
+mod tally;
+pub mod verdict;

@@ -1,0 +1,109 @@
+// The check of a table: every level of every column, then every pair of levels of every two columns, counted over the runs.
+use crate::tally::levels_deviation;
+use crate::verdict::Deviation;
+use crate::verdict::TableFault;
+use crate::verdict::TableFinding;
+use crate::verdict::TableVerdict;
+ghost use mathlib.Core.Path.{_≡_};
+ghost use Prim.Native.Nat.{_<_};
+ghost use lib.ListN.{length};
+ghost use Rattle.counting.specs.Table.{tableOf};
+ghost use Rattle.counting.specs.Checkable.{CheckableTable};
+ghost use Rattle.counting.specs.Tally.{Cleared};
+ghost use Rattle.counting.specs.Verdict.{tableFinding, columnsFault, partnersFault, pairsFault, tableVerdict};
+
+// The verdict on the table whose runs lie one after the other in `cells`.
+pub fn check_table(cells: &[u8], levels: &[u8], runs: usize) -> TableVerdict
+    requires { ⌜ CheckableTable (now cells) (now levels) runs ⌝ }
+    ensures { λ r. ⌜ r ≡ tableVerdict (tableOf (now (cells .entry)) (now (levels .entry)) runs) ⌝ }
+{
+    let mut counters = [0u16; 4096];
+    let finding = uneven_column(cells, levels, runs, &mut counters);
+    match finding {
+        TableFinding::Fails(fault) => TableVerdict {
+            finding: TableFinding::Fails(fault),
+        },
+        TableFinding::Passes => TableVerdict {
+            finding: uneven_pair(cells, levels, runs, &mut counters),
+        },
+    }
+}
+
+// The first column with an uneven level.
+fn uneven_column(cells: &[u8], levels: &[u8], runs: usize, counters: &mut [u16]) -> TableFinding
+    requires { ⌜ CheckableTable (now cells) (now levels) runs ⌝ }
+    requires { ⌜ Cleared (now counters) ⌝ }
+    ensures { λ r. ⌜ r ≡ tableFinding (columnsFault (tableOf (now (cells .entry)) (now (levels .entry)) runs)) ⌝ }
+    ensures { λ r. ⌜ (r ≡ TableFinding.Passes → Cleared (now (counters .exit))) ⌝ }
+{
+    let mut column = 0;
+    while column < levels.len() {
+        let s = levels[column] as usize;
+        match levels_deviation(cells, runs, levels.len(), column, 0, column, s, counters) {
+            Deviation::At { value, times } => {
+                return TableFinding::Fails(TableFault::Column {
+                    column: column + 1,
+                    level: value,
+                    times,
+                });
+            }
+            Deviation::Nowhere => {}
+        }
+        column += 1;
+    }
+    TableFinding::Passes
+}
+
+// The first two columns with an uneven pair of levels.
+fn uneven_pair(cells: &[u8], levels: &[u8], runs: usize, counters: &mut [u16]) -> TableFinding
+    requires { ⌜ CheckableTable (now cells) (now levels) runs ⌝ }
+    requires { ⌜ Cleared (now counters) ⌝ }
+    ensures { λ r. ⌜ r ≡ tableFinding (pairsFault (tableOf (now (cells .entry)) (now (levels .entry)) runs)) ⌝ }
+{
+    let mut first = 0;
+    while first < levels.len() {
+        match uneven_partner(cells, levels, runs, first, counters) {
+            TableFinding::Fails(fault) => {
+                return TableFinding::Fails(fault);
+            }
+            TableFinding::Passes => {}
+        }
+        first += 1;
+    }
+    TableFinding::Passes
+}
+
+// The first later column that has an uneven pair of levels with column `first`.
+fn uneven_partner(
+    cells: &[u8],
+    levels: &[u8],
+    runs: usize,
+    first: usize,
+    counters: &mut [u16],
+) -> TableFinding
+    requires { ⌜ CheckableTable (now cells) (now levels) runs ⌝ }
+    requires { ⌜ first < length (now levels) ⌝ }
+    requires { ⌜ Cleared (now counters) ⌝ }
+    ensures { λ r. ⌜ r ≡ tableFinding (partnersFault (tableOf (now (cells .entry)) (now (levels .entry)) runs) first) ⌝ }
+    ensures { λ r. ⌜ (r ≡ TableFinding.Passes → Cleared (now (counters .exit))) ⌝ }
+{
+    let s = levels[first] as usize;
+    let mut second = first + 1;
+    while second < levels.len() {
+        let t = levels[second] as usize;
+        match levels_deviation(cells, runs, levels.len(), first, t, second, s * t, counters) {
+            Deviation::At { value, times } => {
+                return TableFinding::Fails(TableFault::Pair {
+                    first: first + 1,
+                    second: second + 1,
+                    first_level: value / t,
+                    second_level: value % t,
+                    times,
+                });
+            }
+            Deviation::Nowhere => {}
+        }
+        second += 1;
+    }
+    TableFinding::Passes
+}

@@ -1,0 +1,72 @@
+// A counter for each of up to 4,096 level pairs, shared by the checks: filled over the runs, then read once and set back to zero.
+use crate::verdict::Deviation;
+ghost use mathlib.Core.Path.{_≡_};
+ghost use Prim.Native.Nat.{ℕ, _+_, _*_, _≤_, _<_};
+ghost use lib.ListN.{length, getD};
+ghost use Rattle.counting.specs.Verdict.{deviation, asDeviation};
+ghost use Rattle.counting.specs.Tally.{Cleared, Tallied, Keyed, levelsKey, keysDeviation};
+
+// The lowest of n keys that is not the key of the n-th part of the runs. A run's key is the level in `first` times `weight` plus the
+// level in `second`: with t for the weight it is the number of a pair of levels, with 0 the level in `second` alone.
+pub fn levels_deviation(
+    cells: &[u8],
+    runs: usize,
+    columns: usize,
+    first: usize,
+    weight: usize,
+    second: usize,
+    n: usize,
+    counters: &mut [u16],
+) -> Deviation
+    requires { ⌜ Keyed (now cells) runs columns first second n (levelsKey (now cells) columns first weight second) ⌝ }
+    requires { ⌜ Cleared (now counters) ⌝ }
+    ensures { λ r. ⌜ r ≡ asDeviation (keysDeviation n runs (levelsKey (now (cells .entry)) columns first weight second)) ⌝ }
+    ensures { λ r. ⌜ (r ≡ Deviation.Nowhere → Cleared (now (counters .exit))) ⌝ }
+{
+    tally_levels(cells, runs, columns, first, weight, second, counters);
+    first_deviation(counters, n, runs)
+}
+
+// Counts the runs by their key.
+fn tally_levels(
+    cells: &[u8],
+    runs: usize,
+    columns: usize,
+    first: usize,
+    weight: usize,
+    second: usize,
+    counters: &mut [u16],
+)
+    requires { ⌜ Keyed (now cells) runs columns first second 4096 (levelsKey (now cells) columns first weight second) ⌝ }
+    requires { ⌜ Cleared (now counters) ⌝ }
+    ensures { λ _. ⌜ Tallied (now (counters .exit)) runs (levelsKey (now (cells .entry)) columns first weight second) ⌝ }
+{
+    let mut start = 0;
+    let mut run = 0;
+    while run < runs {
+        let key = cells[start + first] as usize * weight + cells[start + second] as usize;
+        counters[key] += 1;
+        start += columns;
+        run += 1;
+    }
+}
+
+// The lowest of n values whose counter is not the n-th part of the runs. Each counter that is read is set back to zero.
+fn first_deviation(counters: &mut [u16], n: usize, runs: usize) -> Deviation
+    requires { ⌜ (length (now counters) ≡ 4096) × (n ≤ 4096) ⌝ }
+    ensures { λ r. ⌜ r ≡ asDeviation (deviation n runs (λ v. getD (now (counters .entry)) v 0)) ⌝ }
+    ensures { λ r. ⌜ (r ≡ Deviation.Nowhere
+        → ((v : ℕ) → n ≤ v → getD (now (counters .entry)) v 0 ≡ 0)
+        → Cleared (now (counters .exit))) ⌝ }
+{
+    let mut value = 0;
+    while value < n {
+        let times = counters[value] as usize;
+        counters[value] = 0;
+        if n * times != runs {
+            return Deviation::At { value, times };
+        }
+        value += 1;
+    }
+    Deviation::Nowhere
+}
