@@ -5,3 +5,4 @@ pub mod Generator
 pub mod Verdict
 pub mod Tally
 pub mod Checkable
+pub mod Failures

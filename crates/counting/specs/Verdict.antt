@@ -3,8 +3,8 @@ use mathlib.Core.Bool.{cond}
 use mathlib.Core.List.{List, [], _∷_}
 use mathlib.Core.Option.{Option, none, some, Option·map}
 use Prim.Native.Nat.{ℕ, _+_, _*_, _/_, _%_}
-use lib.Dec.{eqb, ltb}
-use Rattle.finite.specs.First.{first, _orElse_}
+use lib.Dec.{eqb}
+use Rattle.finite.specs.First.{first, firstAfter, firstPair, _orElse_}
 use Rattle.counting.specs.Table.{Table, columns, levelsOf, Setting, times}
 use Rattle.counting.specs.declared.verdict.Deviation.{Deviation}
 use Rattle.counting.specs.declared.verdict.Deviation.the-variants.{Nowhere, At}
@@ -54,11 +54,11 @@ columnsFault T = first (columns T) (columnFault T)
 
 -- the first failure of column c with a later one
 unfoldable pub partnersFault : Table → ℕ → Option TableFault
-partnersFault T c = first (columns T) (λ d. cond (ltb c d) (pairFault T c d) none)
+partnersFault T c = firstAfter c (columns T) (pairFault T c)
 
 -- the first failure of two columns, in the order 1-2, 1-3, .., 2-3, ..
 unfoldable pub pairsFault : Table → Option TableFault
-pairsFault T = first (columns T) (partnersFault T)
+pairsFault T = firstPair (columns T) (pairFault T)
 
 abbrev pub tableFinding : Option TableFault → TableFinding
 tableFinding none = Passes

@@ -6,6 +6,7 @@ use borrow.Author.Needs.{needs}
 use borrow.Author.Count.{below-more}
 use lib.ListN.{length}
 use Rattle.finite.proofs.Firsts.{first-none, first-at}
+use Rattle.finite.specs.First.{firstPair}
 use Rattle.counting.specs.Table.{tableOf}
 use Rattle.counting.specs.Tally.{Cleared}
 use Rattle.counting.specs.Verdict.{partnersFault, pairsFault, tableFinding}
@@ -39,7 +40,7 @@ same-length : tie.Need-same-length Inv-loop μ-loop
 same-length c = search needs
 
 returns : tie.Need-returns Inv-loop μ-loop
-unfolding pairsFault tableOf
+unfolding pairsFault firstPair partnersFault tableOf
 returns c =
     let l = c .before .before .before .before .before .before .before .before .loop in
     let found = c .before .before .before .before .before .uneven-partner .ensures .0 in
@@ -68,7 +69,7 @@ same-length-2 : tie.Need-same-length-2 Inv-loop μ-loop
 same-length-2 c = search needs
 
 returns-2 : tie.Need-returns-2 Inv-loop μ-loop
-unfolding pairsFault tableOf
+unfolding pairsFault firstPair partnersFault tableOf
 returns-2 c =
     sym (ap tableFinding (first-none _ _ (λ k h. c .before .loop .inv .3 k (lt-of-lt-of-le h (c .loop-test .left)))))
 

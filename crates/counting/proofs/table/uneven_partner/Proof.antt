@@ -1,15 +1,11 @@
 use mathlib.Core.Path.{_≡_, refl, sym, _∙_, ap}
-use mathlib.Core.Bool.{cond}
 use mathlib.Core.Option.{none, Option·map}
 use Prim.Native.Nat.{ℕ, _+_, _-_, _*_, _≤_, _<_}
 use native.Mathlib.Nat.{lt-of-lt-of-le}
 use native.Mathlib.Omega.{arith}
 use borrow.Author.Needs.{needs}
-use borrow.Author.Tests.{lt-ltb, le-ltb}
-use borrow.Author.Count.{below-more}
-use lib.Dec.{ltb}
 use lib.ListN.{length, getD}
-use Rattle.finite.proofs.Firsts.{first-none, first-at}
+use Rattle.finite.proofs.Firsts.{after-none, after-at, between-more}
 use Rattle.counting.specs.Table.{tableOf}
 use Rattle.counting.specs.Tally.{Cleared}
 use Rattle.counting.specs.Verdict.{pairFault, partnersFault, tableFinding}
@@ -28,7 +24,7 @@ Inv-loop cells levels runs first counters₀ s second₀ counters second =
     × (second ≤ length levels)
     × (length counters ≡ length counters₀)
     × Cleared counters
-    × ((d : ℕ) → d < second → cond (ltb first d) (pairFault (tableOf cells levels runs) first d) none ≡ none)
+    × ((d : ℕ) → first < d → d < second → pairFault (tableOf cells levels runs) first d ≡ none)
 
 abbrev μ-loop : tie.MeasureT-loop
 μ-loop cells levels runs first counters₀ s second₀ counters second = length levels - second
@@ -48,7 +44,7 @@ loop-holds c = (
   search needs,
   refl,
   c .before .before .before .before .pre .1 .1,
-  λ d h. rw (le-ltb (c .before .before .before .before .args .first) d (omega arith)),
+  λ d l h. absurd (omega arith),
 )
 
 shared-slice-read-t : tie.Need-shared-slice-read-t Inv-loop μ-loop
@@ -92,8 +88,8 @@ returns c =
     let start = c .before .before .before .before .before .before .before .before .before .before .before .before .before .before in
     let taken = c .before .before .before .before .before .before .before .before .loop-test .taken in
     let found = c .before .before .before .before .before .levels-deviation .ensures .0 in (
-      sym (ap tableFinding (first-at _ _ (l .second) _ taken (l .inv .4)
-          (rw (lt-ltb _ _ (l .inv .0)) (ap (Option·map _) (sym (pair-deviation _ _ _ (start .pre .0) _ _ taken) ∙ at-some _ _ _ (sym (c .before .value .given .1) ∙ found)))))),
+      sym (ap tableFinding (after-at _ _ _ (l .second) _ (l .inv .0) taken (l .inv .4)
+          (ap (Option·map _) (sym (pair-deviation _ _ _ (start .pre .0) _ _ taken) ∙ at-some _ _ _ (sym (c .before .value .given .1) ∙ found))))),
       λ e. absurd (fails-not-passes _ e),
     )
 
@@ -116,8 +112,8 @@ loop-again c =
       search needs,
       called .kept .1 .1 .1 .1 .1 .1 .1 .0 ∙ l .inv .2,
       called .ensures .1 (c .enum-told .given .1),
-      below-more _ (l .second) (l .inv .4)
-          (rw (lt-ltb _ _ (l .inv .0)) (ap (Option·map _) (sym (pair-deviation _ _ _ (start .pre .0) _ _ taken) ∙ nowhere-none _ (sym (c .enum-told .given .1) ∙ called .ensures .0)))),
+      between-more _ _ (l .second) (l .inv .4)
+          (ap (Option·map _) (sym (pair-deviation _ _ _ (start .pre .0) _ _ taken) ∙ nowhere-none _ (sym (c .enum-told .given .1) ∙ called .ensures .0))),
     )
 
 same-length-2 : tie.Need-same-length-2 Inv-loop μ-loop
@@ -127,7 +123,7 @@ returns-2 : tie.Need-returns-2 Inv-loop μ-loop
 unfolding partnersFault tableOf
 returns-2 c =
     let l = c .before .loop in (
-      sym (ap tableFinding (first-none _ _ (λ k h. l .inv .4 k (lt-of-lt-of-le h (c .loop-test .left))))),
+      sym (ap tableFinding (after-none _ _ _ (λ d m h. l .inv .4 d m (lt-of-lt-of-le h (c .loop-test .left))))),
       λ e. l .inv .3,
     )
 

@@ -1,0 +1,53 @@
+-- What a verdict names: something that does fail, with nothing before it that does (document 01, question 4). Columns and factors count from
+-- 1 where they are named, from 0 here.
+use mathlib.Core.Path.{_≡_}
+use mathlib.Core.Logic.{_≢_}
+use mathlib.Core.List.{List, [], _∷_}
+use Prim.Native.Nat.{ℕ, _+_, _*_, _<_}
+use Rattle.counting.specs.Table.{Table, Setting, columns, levelsOf, times}
+use Rattle.counting.specs.declared.verdict.TableFault.{TableFault}
+use Rattle.counting.specs.declared.verdict.TableFault.the-variants.{Column, Pair}
+
+-- level x of column c stands in N ÷ s runs
+unfoldable pub EvenLevel : Table → ℕ → ℕ → Type 0
+EvenLevel T c x = levelsOf T c * times T (record { column = c; level = x } ∷ []) ≡ T .runs
+
+-- levels x of column c and y of column d stand together in N ÷ (s × t) runs
+unfoldable pub EvenPair : Table → ℕ → ℕ → ℕ → ℕ → Type 0
+EvenPair T c d x y =
+    levelsOf T c * levelsOf T d * times T (record { column = c; level = x } ∷ record { column = d; level = y } ∷ []) ≡ T .runs
+
+-- the levels of column c are all even
+abbrev pub EvenColumn : Table → ℕ → Type 0
+EvenColumn T c = (x : ℕ) → x < levelsOf T c → EvenLevel T c x
+
+-- the pairs of levels of columns c and d are all even
+abbrev pub EvenColumns : Table → ℕ → ℕ → Type 0
+EvenColumns T c d = (x y : ℕ) → x < levelsOf T c → y < levelsOf T d → EvenPair T c d x y
+
+-- the first column with an uneven level, its lowest uneven level, and in how many runs it stands
+pub record FirstLevel (T : Table) (c x n : ℕ) : Type 0 where
+  pub column-in : c < columns T
+  pub level-in : x < levelsOf T c
+  pub counted : n ≡ times T (record { column = c; level = x } ∷ [])
+  pub uneven : EvenLevel T c x → ⊥
+  pub columns-before : (d : ℕ) → d < c → EvenColumn T d
+  pub levels-before : (y : ℕ) → y < x → EvenLevel T c y
+
+-- the first two columns with an uneven pair of levels, their lowest uneven pair, the first column's level leading, and in how many runs it stands
+pub record FirstPair (T : Table) (c d x y n : ℕ) : Type 0 where
+  pub ordered : c < d
+  pub second-in : d < columns T
+  pub first-level-in : x < levelsOf T c
+  pub second-level-in : y < levelsOf T d
+  pub counted : n ≡ times T (record { column = c; level = x } ∷ record { column = d; level = y } ∷ [])
+  pub uneven : EvenPair T c d x y → ⊥
+  pub all-columns : (b : ℕ) → b < columns T → EvenColumn T b
+  pub firsts-before : (a b : ℕ) → a < c → a < b → b < columns T → EvenColumns T a b
+  pub seconds-before : (b : ℕ) → c < b → b < d → EvenColumns T c b
+  pub first-levels-before : (u v : ℕ) → u < x → v < levelsOf T d → EvenPair T c d u v
+  pub second-levels-before : (v : ℕ) → v < y → EvenPair T c d x v
+
+pub data FirstFault (T : Table) : TableFault → Type 0 where
+  level : (c x n : ℕ) → FirstLevel T c x n → FirstFault T (Column (c + 1) x n)
+  pair : (c d x y n : ℕ) → FirstPair T c d x y n → FirstFault T (Pair (c + 1) (d + 1) x y n)
