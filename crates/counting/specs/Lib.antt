@@ -2,6 +2,7 @@ pub mod Table
 pub mod Matrix
 pub mod Digits
 pub mod Generator
+pub mod Pairs
 pub mod Verdict
 pub mod Tally
 pub mod Checkable

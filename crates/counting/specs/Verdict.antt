@@ -4,7 +4,7 @@ use mathlib.Core.List.{List, [], _∷_}
 use mathlib.Core.Option.{Option, none, some, Option·map}
 use Prim.Native.Nat.{ℕ, _+_, _*_, _/_, _%_}
 use lib.Dec.{eqb}
-use Rattle.finite.specs.First.{first, firstAfter, firstPair, _orElse_}
+use Rattle.finite.specs.First.{first, firstPair, _orElse_}
 use Rattle.counting.specs.Table.{Table, columns, levelsOf, Setting, times}
 use Rattle.counting.specs.declared.verdict.Deviation.{Deviation}
 use Rattle.counting.specs.declared.verdict.Deviation.the-variants.{Nowhere, At}
@@ -51,10 +51,6 @@ pairFault T c d =
 -- the first failure of a column
 unfoldable pub columnsFault : Table → Option TableFault
 columnsFault T = first (columns T) (columnFault T)
-
--- the first failure of column c with a later one
-unfoldable pub partnersFault : Table → ℕ → Option TableFault
-partnersFault T c = firstAfter c (columns T) (pairFault T c)
 
 -- the first failure of two columns, in the order 1-2, 1-3, .., 2-3, ..
 unfoldable pub pairsFault : Table → Option TableFault

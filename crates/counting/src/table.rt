@@ -1,4 +1,5 @@
 // The check of a table: every level of every column, then every pair of levels of every two columns, counted over the runs.
+use crate::pairs::IndexPair;
 use crate::tally::levels_deviation;
 use crate::verdict::Deviation;
 use crate::verdict::TableFault;
@@ -10,7 +11,7 @@ ghost use lib.ListN.{length};
 ghost use Rattle.counting.specs.Table.{tableOf};
 ghost use Rattle.counting.specs.Checkable.{CheckableTable};
 ghost use Rattle.counting.specs.Tally.{Cleared};
-ghost use Rattle.counting.specs.Verdict.{tableFinding, columnsFault, partnersFault, pairsFault, tableVerdict};
+ghost use Rattle.counting.specs.Verdict.{tableFinding, columnsFault, pairsFault, tableVerdict};
 
 // The verdict on the table whose runs lie one after the other in `cells`.
 pub fn check_table(cells: &[u8], levels: &[u8], runs: usize) -> TableVerdict
@@ -60,36 +61,11 @@ fn uneven_pair(cells: &[u8], levels: &[u8], runs: usize, counters: &mut [u16]) -
     requires { ⌜ Cleared (now counters) ⌝ }
     ensures { λ r. ⌜ r ≡ tableFinding (pairsFault (tableOf (now (cells .entry)) (now (levels .entry)) runs)) ⌝ }
 {
-    let mut first = 0;
-    while first < levels.len() {
-        match uneven_partner(cells, levels, runs, first, counters) {
-            TableFinding::Fails(fault) => {
-                return TableFinding::Fails(fault);
-            }
-            TableFinding::Passes => {}
-        }
-        first += 1;
-    }
-    TableFinding::Passes
-}
-
-// The first later column that has an uneven pair of levels with column `first`.
-fn uneven_partner(
-    cells: &[u8],
-    levels: &[u8],
-    runs: usize,
-    first: usize,
-    counters: &mut [u16],
-) -> TableFinding
-    requires { ⌜ CheckableTable (now cells) (now levels) runs ⌝ }
-    requires { ⌜ first < length (now levels) ⌝ }
-    requires { ⌜ Cleared (now counters) ⌝ }
-    ensures { λ r. ⌜ r ≡ tableFinding (partnersFault (tableOf (now (cells .entry)) (now (levels .entry)) runs) first) ⌝ }
-    ensures { λ r. ⌜ (r ≡ TableFinding.Passes → Cleared (now (counters .exit))) ⌝ }
-{
-    let s = levels[first] as usize;
-    let mut second = first + 1;
-    while second < levels.len() {
+    let mut pair = IndexPair::start();
+    while pair.second < levels.len() {
+        let first = pair.first;
+        let second = pair.second;
+        let s = levels[first] as usize;
         let t = levels[second] as usize;
         match levels_deviation(cells, runs, levels.len(), first, t, second, s * t, counters) {
             Deviation::At { value, times } => {
@@ -103,7 +79,7 @@ fn uneven_partner(
             }
             Deviation::Nowhere => {}
         }
-        second += 1;
+        pair = pair.next(levels.len());
     }
     TableFinding::Passes
 }

@@ -1,77 +1,117 @@
+-- `uneven_pair` meets its contract: the pairs before the one in hand are even, and the counters are zero between two pairs.
+-- Assumes nothing.
 use mathlib.Core.Path.{_≡_, refl, sym, _∙_, ap}
-use mathlib.Core.Option.{none}
-use Prim.Native.Nat.{ℕ, _-_, _≤_, _<_}
-use native.Mathlib.Nat.{not-suc-le-zero, lt-of-lt-of-le}
+use mathlib.Core.Option.{Option·map}
+use native.Mathlib.Nat.{lt-trans}
+use native.Mathlib.Omega.{arith}
 use borrow.Author.Needs.{needs}
-use borrow.Author.Count.{below-more}
 use lib.ListN.{length}
-use Rattle.finite.proofs.Firsts.{first-none, first-at}
-use Rattle.finite.specs.First.{firstPair}
 use Rattle.counting.specs.Table.{tableOf}
 use Rattle.counting.specs.Tally.{Cleared}
-use Rattle.counting.specs.Verdict.{partnersFault, pairsFault, tableFinding}
-use Rattle.counting.proofs.Deviations.{fails-some, passes-none}
+use Rattle.counting.specs.Verdict.{pairFault, pairsFault, tableFinding}
+use Rattle.counting.proofs.Deviations.{at-some, nowhere-none}
+use Rattle.counting.proofs.Fits.{product-fits}
+use Rattle.counting.proofs.PairOrder.{Searched, searched-start, searched-next, searched-none, searched-at, left, left-falls}
+use Rattle.counting.proofs.TableKeys.{pair-keyed, pair-deviation}
 use Rattle.counting.proofs.table.uneven_pair.Statement.{statement}
 use Rattle.counting.proofs.table.uneven_pair.Tie as tie
 use Rattle.counting.proofs.table.uneven_pair.Reads as reads
 use Rattle.counting.proofs.table.uneven_pair.Lts as lts
-use Rattle.counting.proofs.table.uneven_partner.Reads as uneven-partner-reads
+use Rattle.counting.proofs.pairs.IndexPair.next.Reads as next-reads
+use Rattle.counting.proofs.pairs.IndexPair.start.Reads as start-reads
+use Rattle.counting.proofs.tally.levels_deviation.Reads as levels-deviation-reads
 
 abbrev Inv-loop : tie.InvT-loop
-Inv-loop cells levels runs counters₀ first₀ counters first =
-    (first ≤ length levels)
-    × (length counters ≡ length counters₀)
+Inv-loop cells levels runs counters₀ pair₀ counters pair =
+    (length counters ≡ length counters₀)
     × Cleared counters
-    × ((k : ℕ) → k < first → partnersFault (tableOf cells levels runs) k ≡ none)
+    × Searched (pairFault (tableOf cells levels runs)) (length levels) pair
 
 abbrev μ-loop : tie.MeasureT-loop
-μ-loop cells levels runs counters₀ first₀ counters first = length levels - first
+μ-loop cells levels runs counters₀ pair₀ counters pair = left (length levels) pair
+
+start-requires : tie.Need-start-requires Inv-loop μ-loop
+start-requires c κs = search needs
 
 loop-holds : tie.Need-loop-holds Inv-loop μ-loop
-loop-holds c = (search needs, refl, c .before .before .before .pre .1, λ k h. absurd (not-suc-le-zero h))
+loop-holds c = (refl, c .before .before .before .before .pre .1, rw (c .start .ensures) (searched-start _ _))
 
-uneven-partner-requires : tie.Need-uneven-partner-requires Inv-loop μ-loop
-uneven-partner-requires c κs = (c .before .before .before .before .before .before .pre .0, (c .before .loop-test .taken, c .before .before .loop .inv .2))
+shared-slice-read-s : tie.Need-shared-slice-read-s Inv-loop μ-loop
+shared-slice-read-s c = lt-trans (c .before .before .before .loop .inv .2 .ordered) (c .before .if1 .taken)
 
-enum-known-fault : tie.Need-enum-known-fault Inv-loop μ-loop
-enum-known-fault c = search needs
+cast-s : tie.Need-cast-s Inv-loop μ-loop
+cast-s c = omega (arith, c .shared-slice-known3 .given (c .before .before .before .loop .pair .first))
+
+shared-slice-read-t : tie.Need-shared-slice-read-t Inv-loop μ-loop
+shared-slice-read-t c = search needs
+
+cast-t : tie.Need-cast-t Inv-loop μ-loop
+cast-t c = omega (arith, c .shared-slice-known4 .given (c .before .before .before .before .loop .pair .second))
+
+mul-levels-deviation : tie.Need-mul-levels-deviation Inv-loop μ-loop
+mul-levels-deviation c =
+    let l = c .before .before .before .before .loop in
+    product-fits (c .before .before .before .before .before .before .before .before .before .pre .0 .levels-to _ (lt-trans (l .inv .2 .ordered) (c .before .before .if1 .taken))) (c .shared-slice-known4 .given (l .pair .second)) tt
+
+levels-deviation-requires : tie.Need-levels-deviation-requires Inv-loop μ-loop
+levels-deviation-requires c κs =
+    let l = c .before .before .before .before .before .loop in
+    let taken = c .before .before .before .if1 .taken in
+    (pair-keyed _ _ _ (c .before .before .before .before .before .before .before .before .before .before .pre .0) _ _ (lt-trans (l .inv .2 .ordered) taken) taken, l .inv .1)
+
+enum-known-value : tie.Need-enum-known-value Inv-loop μ-loop
+enum-known-value c = search needs
+
+add-t21 : tie.Need-add-t21 Inv-loop μ-loop
+add-t21 c = search needs
+
+add-t22 : tie.Need-add-t22 Inv-loop μ-loop
+add-t22 c = search needs
+
+div-t23 : tie.Need-div-t23 Inv-loop μ-loop
+div-t23 c = omega (arith, c .before .before .before .before .before .before .before .before .before .before .before .before .before .before .before .before .pre .0 .levels-from (c .before .before .before .before .before .before .before .before .before .before .before .loop .pair .second) (c .before .before .before .before .before .before .before .before .before .if1 .taken))
+
+rem-t24 : tie.Need-rem-t24 Inv-loop μ-loop
+rem-t24 c = omega (arith, c .before .before .before .before .before .before .before .before .before .before .before .before .before .before .before .before .pre .0 .levels-from (c .before .before .before .before .before .before .before .before .before .before .before .loop .pair .second) (c .before .before .before .before .before .before .before .before .before .if1 .taken))
 
 same-length : tie.Need-same-length Inv-loop μ-loop
 same-length c = search needs
 
 returns : tie.Need-returns Inv-loop μ-loop
-unfolding pairsFault firstPair partnersFault tableOf
+unfolding pairsFault tableOf
 returns c =
-    let l = c .before .before .before .before .before .before .before .before .loop in
-    let found = c .before .before .before .before .before .uneven-partner .ensures .0 in
-    sym (ap tableFinding (first-at _ _ (l .first) _ (c .before .before .before .before .before .before .before .loop-test .taken) (l .inv .3) (fails-some _ _ (sym (c .before .fault .given .1) ∙ found))))
+    let l = c .before .before .before .before .before .before .before .before .before .before .before .loop in
+    let taken = c .before .before .before .before .before .before .before .before .before .if1 .taken in
+    let found = c .before .before .before .before .before .levels-deviation .ensures .0 in
+    sym (ap tableFinding (searched-at _ _ (l .pair) _ (l .inv .2) taken
+        (ap (Option·map _) (sym (pair-deviation _ _ _ (c .before .before .before .before .before .before .before .before .before .before .before .before .before .before .before .before .pre .0) _ _ taken) ∙ at-some _ _ _ (sym (c .before .value .given .1) ∙ found)))))
 
 enum-told : tie.Need-enum-told Inv-loop μ-loop
 enum-told c = search needs
 
-add-first : tie.Need-add-first Inv-loop μ-loop
-add-first c = search needs
+next-requires : tie.Need-next-requires Inv-loop μ-loop
+next-requires c κs = (c .before .before .before .before .before .before .before .before .before .before .loop .inv .2 .ordered, c .before .before .before .before .before .before .before .before .if1 .taken)
 
 loop-less : tie.Need-loop-less Inv-loop μ-loop
-loop-less c = search needs
+loop-less c = rw (c .next .ensures) (left-falls _ _ (c .before .before .before .before .before .before .before .before .before .before .before .loop .inv .2 .ordered) (c .before .before .before .before .before .before .before .before .before .if1 .taken))
 
 loop-again : tie.Need-loop-again Inv-loop μ-loop
 loop-again c =
-    let l = c .before .before .before .before .before .before .before .loop in
-    let called = c .before .before .before .before .uneven-partner in (
-      search needs,
-      called .kept .1 .1 .1 .1 .0 ∙ l .inv .1,
-      called .ensures .1 (c .enum-told .given .1),
-      below-more _ (l .first) (l .inv .3) (passes-none _ (sym (c .enum-told .given .1) ∙ called .ensures .0)),
+    let l = c .before .before .before .before .before .before .before .before .before .before .before .loop in
+    let taken = c .before .before .before .before .before .before .before .before .before .if1 .taken in
+    let called = c .before .before .before .before .before .levels-deviation in
+    ( called .kept .1 .1 .1 .1 .1 .1 .1 .0 ∙ l .inv .0
+    , called .ensures .1 (c .before .enum-told .given .1)
+    , rw (c .next .ensures) (searched-next _ _ (l .pair) (l .inv .2) taken
+        (ap (Option·map _) (sym (pair-deviation _ _ _ (c .before .before .before .before .before .before .before .before .before .before .before .before .before .before .before .before .pre .0) _ _ taken) ∙ nowhere-none _ (sym (c .before .enum-told .given .1) ∙ called .ensures .0))))
     )
 
 same-length-2 : tie.Need-same-length-2 Inv-loop μ-loop
 same-length-2 c = search needs
 
 returns-2 : tie.Need-returns-2 Inv-loop μ-loop
-unfolding pairsFault firstPair partnersFault tableOf
-returns-2 c =
-    sym (ap tableFinding (first-none _ _ (λ k h. c .before .loop .inv .3 k (lt-of-lt-of-le h (c .loop-test .left)))))
+unfolding pairsFault tableOf
+returns-2 c = sym (ap tableFinding (searched-none _ _ _ (c .before .before .loop .inv .2) (c .if1 .left)))
 
 pub uneven-pair-spec : {M : Type 1} → statement M
 uneven-pair-spec =
@@ -79,13 +119,23 @@ uneven-pair-spec =
     (tie.spec
     Inv-loop
     μ-loop
+    start-requires
     loop-holds
-    uneven-partner-requires
-    enum-known-fault
+    shared-slice-read-s
+    cast-s
+    shared-slice-read-t
+    cast-t
+    mul-levels-deviation
+    levels-deviation-requires
+    enum-known-value
+    add-t21
+    add-t22
+    div-t23
+    rem-t24
     same-length
     returns
     enum-told
-    add-first
+    next-requires
     loop-less
     loop-again
     same-length-2
