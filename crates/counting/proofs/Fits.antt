@@ -4,6 +4,7 @@ use mathlib.Core.Path.{_≡_}
 use Prim.Native.Nat.{ℕ, _+_, _*_, _^_, _≤_, _<_}
 use native.Mathlib.Nat.{le-of-lt, le-trans, lt-of-le-of-lt, lt-of-lt-of-le, suc-mul, mul-le-mul, mul-le-mul-right}
 use native.Mathlib.Numerals.{add-one}
+use native.Mathlib.Omega.{arith}
 use lib.Arith.{digits-lt}
 use lib.Dec.{T, ltb, ltb→lt}
 use mir.Syntax.{Width, w64}
@@ -24,3 +25,7 @@ run-more r columns = rw (add-one, suc-mul)
 
 pub run-end : (r columns : ℕ) {runs n : ℕ} → r < runs → runs * columns ≤ n → r * columns + columns ≤ n
 run-end r columns h whole = le-trans (rw (← suc-mul r columns) (mul-le-mul-right columns h)) whole
+
+-- where a counter of two bytes lies
+pub offset-fits : {k : ℕ} → k < 4096 → Fits w64 (k * 2)
+offset-fits h = record { fits = omega arith }

@@ -4,3 +4,4 @@ pub mod PairOrder
 pub mod Tallies
 pub mod TableKeys
 pub mod TableVerdicts
+pub mod MatrixVerdicts

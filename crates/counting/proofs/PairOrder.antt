@@ -37,11 +37,11 @@ module _ {A : Type 0} (f : ℕ → ℕ → Option A) (n : ℕ) where
 
   pub searched-start : Searched startPair
   searched-start =
-      record
-      { ordered = omega arith
-      ; last = λ h. omega arith
-      ; earlier = λ c d h g k. absurd (omega arith)
-      ; nearer = λ d g h. absurd (omega arith)
+      record {
+        ordered = omega arith;
+        last = λ h. omega arith;
+        earlier = λ c d h g k. absurd (omega arith);
+        nearer = λ d g h. absurd (omega arith);
       }
 
   -- nothing at p, the last with its first, so nothing with that first
@@ -55,19 +55,19 @@ module _ {A : Type 0} (f : ℕ → ℕ → Option A) (n : ℕ) where
   searched-next p s h e =
       by-cases (decLt (p .second + 1) n)
       (λ l. rw (lt-ltb (p .second + 1) n l)
-          (record
-          { ordered = omega (arith, s .ordered)
-          ; last = λ g. absurd (omega arith)
-          ; earlier = s .earlier
-          ; nearer = between-more _ (p .first) (p .second) (s .nearer) e
-          }))
+      (record {
+        ordered = omega (arith, s .ordered);
+        last = λ g. absurd (omega arith);
+        earlier = s .earlier;
+        nearer = between-more _ (p .first) (p .second) (s .nearer) e;
+      }))
       (λ l. rw (le-ltb (p .second + 1) n (omega arith))
-          (record
-          { ordered = omega arith
-          ; last = λ g. omega (arith, s .ordered)
-          ; earlier = λ c d k g m. ⊎-elim (λ (q : c ≡ p .first). rw q (row-none p s e (omega arith) d (omega arith) m)) (λ (q : c < p .first). s .earlier c d q g m) (eq-or-lt-of-le (omega arith))
-          ; nearer = λ d g k. absurd (omega arith)
-          }))
+      (record {
+        ordered = omega arith;
+        last = λ g. omega (arith, s .ordered);
+        earlier = λ c d k g m. ⊎-elim (λ (q : c ≡ p .first). rw q (row-none p s e (omega arith) d (omega arith) m)) (λ (q : c < p .first). s .earlier c d q g m) (eq-or-lt-of-le (omega arith));
+        nearer = λ d g k. absurd (omega arith);
+      }))
 
   pub searched-none : (p : IndexPair) → Searched p → n ≤ p .second → firstPair n f ≡ none
   searched-none p s h = pair-none f n (λ c d l k. s .earlier c d (omega (arith, s .last h)) l k)

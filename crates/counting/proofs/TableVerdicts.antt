@@ -49,7 +49,7 @@ pair-either T k c d x y apart hc hd hx hy =
     by-cases (decLt c d)
     (λ l. k .pairs c d l hd x y hx hy)
     (λ l. rw (mul-comm (levelsOf T c) (levelsOf T d), times-swap T c x d y)
-        (k .pairs d c (lt-of-le-ne (omega arith) (λ e. apart (sym e))) hc y x hy hx))
+    (k .pairs d c (lt-of-le-ne (omega arith) (λ e. apart (sym e))) hc y x hy hx))
 
 pub checked-even : (T : Table) → Checked T → Even 2 T
 unfolding Even EvenLevel EvenPair times shows combinations Settings Apart
@@ -63,10 +63,10 @@ checked-even T k (x ∷ y ∷ z ∷ xs) few s = absurd (omega arith)
 pub even-checked : (T : Table) → Even 2 T → Checked T
 unfolding Even EvenLevel EvenPair combinations Settings Apart
 even-checked T e =
-    record
-    { levels = λ c hc x hx. rw (← mul-one (levelsOf T c)) (e (one c x) (lit≤ tt) (hc, hx, tt, tt))
-    ; pairs = λ c d h hd x y hx hy. rw (← mul-one (levelsOf T d))
-        (e (two c x d y) (lit≤ tt) (lt-trans h hd, hx, (ne-of-lt h, tt), (hd, hy, tt, tt)))
+    record {
+      levels = λ c hc x hx. rw (← mul-one (levelsOf T c)) (e (one c x) (lit≤ tt) (hc, hx, tt, tt));
+      pairs = λ c d h hd x y hx hy. rw (← mul-one (levelsOf T d))
+          (e (two c x d y) (lit≤ tt) (lt-trans h hd, hx, (ne-of-lt h, tt), (hd, hy, tt, tt)));
     }
 
 -- ---- the numbers of pairs of levels
@@ -128,13 +128,13 @@ unfolding columnDeviation EvenLevel
 lowest-level T c x h before e =
     let l = some-lowest _ _ _ x e in
     level c (x .value) (x .times)
-    (record
-    { column-in = h
-    ; level-in = l .below
-    ; counted = l .counted
-    ; uneven = l .uneven
-    ; columns-before = before
-    ; levels-before = l .before
+    (record {
+      column-in = h;
+      level-in = l .below;
+      counted = l .counted;
+      uneven = l .uneven;
+      columns-before = before;
+      levels-before = l .before;
     })
 
 first-level-fault : (T : Table) (fault : TableFault) → columnsFault T ≡ some fault → FirstFault T fault
@@ -155,19 +155,19 @@ unfolding pairDeviation EvenPair
 lowest-pair T c d x h hd cs firsts seconds e =
     let l = some-lowest _ _ _ x e in
     pair c d (x .value / levelsOf T d) (x .value % levelsOf T d) (x .times)
-    (record
-    { ordered = h
-    ; second-in = hd
-    ; first-level-in = first-level _ _ (x .value) (l .below)
-    ; second-level-in = second-level _ _ (x .value) (l .below)
-    ; counted = l .counted
-    ; uneven = l .uneven
-    ; all-columns = cs
-    ; firsts-before = firsts
-    ; seconds-before = seconds
-    ; first-levels-before = λ u v hu hv. pair-numbered T c d u v hv (l .before _ (lt-of-lt-of-le (digits-lt hu hv) (div-mul-le-self (x .value) _)))
-    ; second-levels-before = λ v hv. pair-numbered T c d _ v (lt-trans hv (second-level _ _ (x .value) (l .below)))
-        (l .before (x .value / levelsOf T d * levelsOf T d + v) (omega (arith, div-add-mod' (x .value) (levelsOf T d))))
+    (record {
+      ordered = h;
+      second-in = hd;
+      first-level-in = first-level _ _ (x .value) (l .below);
+      second-level-in = second-level _ _ (x .value) (l .below);
+      counted = l .counted;
+      uneven = l .uneven;
+      all-columns = cs;
+      firsts-before = firsts;
+      seconds-before = seconds;
+      first-levels-before = λ u v hu hv. pair-numbered T c d u v hv (l .before _ (lt-of-lt-of-le (digits-lt hu hv) (div-mul-le-self (x .value) _)));
+      second-levels-before = λ v hv. pair-numbered T c d _ v (lt-trans hv (second-level _ _ (x .value) (l .below)))
+          (l .before (x .value / levelsOf T d * levelsOf T d + v) (omega (arith, div-add-mod' (x .value) (levelsOf T d))));
     })
 
 first-pair-fault : (T : Table) (fault : TableFault) → columnsFault T ≡ none → pairsFault T ≡ some fault → FirstFault T fault
@@ -177,9 +177,9 @@ first-pair-fault T fault n e =
     let m = map-eq-some-iff _ _ .0 (l .there) in
     subst (FirstFault T) (m .2)
     (lowest-pair T (l .one) (l .other) (m .0) (l .ordered) (l .below) (all-columns-even T n)
-        (λ a b h g k. columns-even T a b (l .earlier a b h g k))
-        (λ b g h. columns-even T (l .one) b (l .nearer b g h))
-        (m .1))
+    (λ a b h g k. columns-even T a b (l .earlier a b h g k))
+    (λ b g h. columns-even T (l .one) b (l .nearer b g h))
+    (m .1))
 
 -- ---- the verdict
 pub verdict-column : (T : Table) (fault : TableFault) → columnsFault T ≡ some fault → record { finding = Fails fault } ≡ tableVerdict T

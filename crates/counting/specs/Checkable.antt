@@ -3,6 +3,7 @@ use Prim.Native.Nat.{ℕ, _*_, _≤_, _<_}
 use mathlib.Core.List.{List}
 use lib.ListN.{length, getD}
 use Rattle.counting.specs.Table.{tableOf, InRange}
+use Rattle.counting.specs.Matrix.{matrixOf, EntriesInRange}
 
 -- the bytes hold the runs of a table
 pub record CheckableTable (cells levels : List ℕ) (runs : ℕ) : Type 0 where
@@ -11,3 +12,11 @@ pub record CheckableTable (cells levels : List ℕ) (runs : ℕ) : Type 0 where
   pub levels-from : (c : ℕ) → c < length levels → 2 ≤ getD levels c 0
   pub levels-to : (c : ℕ) → c < length levels → getD levels c 0 ≤ 64
   pub in-range : InRange (tableOf cells levels runs)
+
+-- the bytes hold the rows of a matrix
+pub record CheckableMatrix (entries : List ℕ) (rows columns p : ℕ) : Type 0 where
+  pub whole : rows * columns ≤ length entries
+  pub few : rows ≤ 512
+  pub modulus-from : 2 ≤ p
+  pub modulus-to : p ≤ 64
+  pub in-range : EntriesInRange (matrixOf entries rows columns p)

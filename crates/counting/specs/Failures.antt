@@ -5,6 +5,8 @@ use mathlib.Core.Logic.{_≢_}
 use mathlib.Core.List.{List, [], _∷_}
 use Prim.Native.Nat.{ℕ, _+_, _*_, _<_}
 use Rattle.counting.specs.Table.{Table, Setting, columns, levelsOf, times}
+use Rattle.counting.specs.Matrix.{Matrix, differences}
+use Rattle.counting.specs.declared.verdict.DifferenceFault.{DifferenceFault}
 use Rattle.counting.specs.declared.verdict.TableFault.{TableFault}
 use Rattle.counting.specs.declared.verdict.TableFault.the-variants.{Column, Pair}
 
@@ -51,3 +53,26 @@ pub record FirstPair (T : Table) (c d x y n : ℕ) : Type 0 where
 pub data FirstFault (T : Table) : TableFault → Type 0 where
   level : (c x n : ℕ) → FirstLevel T c x n → FirstFault T (Column (c + 1) x n)
   pair : (c d x y n : ℕ) → FirstPair T c d x y n → FirstFault T (Pair (c + 1) (d + 1) x y n)
+
+-- column c minus column d is v in M ÷ p rows
+unfoldable pub EvenDifference : Matrix → ℕ → ℕ → ℕ → Type 0
+EvenDifference D c d v = D .modulus * differences D c d v ≡ D .rows
+
+-- the differences of columns c and d are all even
+abbrev pub EvenDifferences : Matrix → ℕ → ℕ → Type 0
+EvenDifferences D c d = (v : ℕ) → v < D .modulus → EvenDifference D c d v
+
+-- the first two columns with an uneven difference, their lowest uneven difference, and in how many rows it stands
+pub record FirstDifference (D : Matrix) (fault : DifferenceFault) : Type 0 where
+  pub one : ℕ
+  pub other : ℕ
+  pub first-named : fault .first ≡ one + 1
+  pub second-named : fault .second ≡ other + 1
+  pub ordered : one < other
+  pub second-in : other < D .columns
+  pub difference-in : fault .difference < D .modulus
+  pub counted : fault .times ≡ differences D one other (fault .difference)
+  pub uneven : EvenDifference D one other (fault .difference) → ⊥
+  pub firsts-before : (a b : ℕ) → a < one → a < b → b < D .columns → EvenDifferences D a b
+  pub seconds-before : (b : ℕ) → one < b → b < other → EvenDifferences D one b
+  pub differences-before : (v : ℕ) → v < fault .difference → EvenDifference D one other v

@@ -22,9 +22,17 @@ matrixOf entries rows columns p =
 unfoldable pub difference : ℕ → ℕ → ℕ → ℕ
 difference p x y = (x + (p - y)) % p
 
+-- column c minus column d in row r
+unfoldable pub rowDifference : Matrix → ℕ → ℕ → ℕ → ℕ
+rowDifference D c d r = difference (D .modulus) (D .entry r c) (D .entry r d)
+
 -- in how many rows column c minus column d is v
 unfoldable pub differences : Matrix → ℕ → ℕ → ℕ → ℕ
-differences D c d v = count (D .rows) (λ r. eqb (difference (D .modulus) (D .entry r c) (D .entry r d)) v)
+differences D c d v = count (D .rows) (λ r. eqb (rowDifference D c d r) v)
+
+-- every entry is one of 0 to p - 1
+unfoldable pub EntriesInRange : Matrix → Type 0
+EntriesInRange D = (r c : ℕ) → r < D .rows → c < D .columns → D .entry r c < D .modulus
 
 -- For every two columns the differences, first minus second, take each value exactly M ÷ p times. One column always passes.
 unfoldable pub DifferenceMatrix : Matrix → Type 0

@@ -6,6 +6,10 @@ use Prim.Native.Nat.{ℕ, _+_, _*_, _/_, _%_}
 use lib.Dec.{eqb}
 use Rattle.finite.specs.First.{first, firstPair, _orElse_}
 use Rattle.counting.specs.Table.{Table, columns, levelsOf, Setting, times}
+use Rattle.counting.specs.Matrix.{Matrix, differences}
+use Rattle.counting.specs.declared.verdict.DifferenceFault.{DifferenceFault}
+use Rattle.counting.specs.declared.verdict.MatrixFinding.{MatrixFinding}
+use Rattle.counting.specs.declared.verdict.MatrixFinding.the-variants as MatrixFinding
 use Rattle.counting.specs.declared.verdict.Deviation.{Deviation}
 use Rattle.counting.specs.declared.verdict.Deviation.the-variants.{Nowhere, At}
 use Rattle.counting.specs.declared.verdict.TableFault.{TableFault}
@@ -67,3 +71,20 @@ tableVerdict T = record { finding = tableFinding (columnsFault T orElse pairsFau
 abbrev pub asDeviation : Option Counted → Deviation
 asDeviation none = Nowhere
 asDeviation (some x) = At (x .value) (x .times)
+
+-- the lowest difference of columns c and d that does not stand in exactly M ÷ p rows
+unfoldable pub differenceDeviation : Matrix → ℕ → ℕ → Option Counted
+differenceDeviation D c d = deviation (D .modulus) (D .rows) (differences D c d)
+
+abbrev pub differenceFault : Matrix → ℕ → ℕ → Option DifferenceFault
+differenceFault D c d =
+    Option·map
+    (λ (x : Counted). record { first = c + 1; second = d + 1; difference = x .value; times = x .times })
+    (differenceDeviation D c d)
+
+abbrev pub matrixFinding : Option DifferenceFault → MatrixFinding
+matrixFinding none = MatrixFinding.Passes
+matrixFinding (some fault) = MatrixFinding.Fails fault
+
+unfoldable pub matrixVerdict : Matrix → MatrixFinding
+matrixVerdict D = matrixFinding (firstPair (D .columns) (differenceFault D))

@@ -3,7 +3,9 @@ use crate::verdict::Deviation;
 ghost use mathlib.Core.Path.{_≡_};
 ghost use Prim.Native.Nat.{ℕ, _+_, _*_, _≤_, _<_};
 ghost use lib.ListN.{length, getD};
-ghost use Rattle.counting.specs.Verdict.{deviation, asDeviation};
+ghost use Rattle.counting.specs.Matrix.{matrixOf, rowDifference};
+ghost use Rattle.counting.specs.Checkable.{CheckableMatrix};
+ghost use Rattle.counting.specs.Verdict.{deviation, asDeviation, differenceDeviation};
 ghost use Rattle.counting.specs.Tally.{Cleared, Tallied, Keyed, levelsKey, keysDeviation};
 
 // The lowest of n keys that is not the key of the n-th part of the runs. A run's key is the level in `first` times `weight` plus the
@@ -27,6 +29,26 @@ pub fn levels_deviation(
     first_deviation(counters, n, runs)
 }
 
+// The lowest of the p differences of two columns, first minus second modulo p, that is not that of the p-th part of the rows.
+pub fn differences_deviation(
+    entries: &[u8],
+    rows: usize,
+    columns: usize,
+    first: usize,
+    second: usize,
+    p: usize,
+    counters: &mut [u16],
+) -> Deviation
+    requires { ⌜ CheckableMatrix (now entries) rows columns p ⌝ }
+    requires { ⌜ (first < columns) × (second < columns) ⌝ }
+    requires { ⌜ Cleared (now counters) ⌝ }
+    ensures { λ r. ⌜ r ≡ asDeviation (differenceDeviation (matrixOf (now (entries .entry)) rows columns p) first second) ⌝ }
+    ensures { λ r. ⌜ (r ≡ Deviation.Nowhere → Cleared (now (counters .exit))) ⌝ }
+{
+    tally_differences(entries, rows, columns, first, second, p, counters);
+    first_deviation(counters, p, rows)
+}
+
 // Counts the runs by their key.
 fn tally_levels(
     cells: &[u8],
@@ -48,6 +70,32 @@ fn tally_levels(
         counters[key] += 1;
         start += columns;
         run += 1;
+    }
+}
+
+// Counts the rows by the difference of two columns.
+fn tally_differences(
+    entries: &[u8],
+    rows: usize,
+    columns: usize,
+    first: usize,
+    second: usize,
+    p: usize,
+    counters: &mut [u16],
+)
+    requires { ⌜ CheckableMatrix (now entries) rows columns p ⌝ }
+    requires { ⌜ (first < columns) × (second < columns) ⌝ }
+    requires { ⌜ Cleared (now counters) ⌝ }
+    ensures { λ _. ⌜ Tallied (now (counters .exit)) rows (rowDifference (matrixOf (now (entries .entry)) rows columns p) first second) ⌝ }
+{
+    let mut start = 0;
+    let mut row = 0;
+    while row < rows {
+        let x = entries[start + first] as usize;
+        let y = entries[start + second] as usize;
+        counters[(x + (p - y)) % p] += 1;
+        start += columns;
+        row += 1;
     }
 }
 

@@ -30,3 +30,16 @@ pub enum TableFinding {
 pub struct TableVerdict {
     pub finding: TableFinding,
 }
+
+// What is wrong with a difference matrix: a difference of two columns, first minus second.
+pub struct DifferenceFault {
+    pub first: usize,
+    pub second: usize,
+    pub difference: usize,
+    pub times: usize,
+}
+
+pub enum MatrixFinding {
+    Passes,
+    Fails(DifferenceFault),
+}

@@ -118,12 +118,12 @@ module _ {A : Type 0} (f : ℕ → ℕ → Option A) (n : ℕ) where
       let l = found-least _ n a e in
       let m = found-least _ n a (l .there) in
       let t = cond-then _ _ a (m .there) in
-      record
-      { one = l .place
-      ; other = m .place
-      ; ordered = ltb-true (l .place) (m .place) (t .0)
-      ; below = m .below
-      ; there = t .1
-      ; earlier = λ c d h k g. none-after c n (f c) (l .before c h) d k g
-      ; nearer = λ d k h. rw (lt-ltb (l .place) d k) at (m .before d h)
+      record {
+        one = l .place;
+        other = m .place;
+        ordered = ltb-true (l .place) (m .place) (t .0);
+        below = m .below;
+        there = t .1;
+        earlier = λ c d h k g. none-after c n (f c) (l .before c h) d k g;
+        nearer = λ d k h. rw (lt-ltb (l .place) d k) at (m .before d h);
       }

@@ -84,7 +84,7 @@ returns c =
     let taken = c .before .before .before .before .before .before .before .before .before .if1 .taken in
     let found = c .before .before .before .before .before .levels-deviation .ensures .0 in
     sym (ap tableFinding (searched-at _ _ (l .pair) _ (l .inv .2) taken
-        (ap (Option·map _) (sym (pair-deviation _ _ _ (c .before .before .before .before .before .before .before .before .before .before .before .before .before .before .before .before .pre .0) _ _ taken) ∙ at-some _ _ _ (sym (c .before .value .given .1) ∙ found)))))
+    (ap (Option·map _) (sym (pair-deviation _ _ _ (c .before .before .before .before .before .before .before .before .before .before .before .before .before .before .before .before .pre .0) _ _ taken) ∙ at-some _ _ _ (sym (c .before .value .given .1) ∙ found)))))
 
 enum-told : tie.Need-enum-told Inv-loop μ-loop
 enum-told c = search needs
@@ -99,11 +99,11 @@ loop-again : tie.Need-loop-again Inv-loop μ-loop
 loop-again c =
     let l = c .before .before .before .before .before .before .before .before .before .before .before .loop in
     let taken = c .before .before .before .before .before .before .before .before .before .if1 .taken in
-    let called = c .before .before .before .before .before .levels-deviation in
-    ( called .kept .1 .1 .1 .1 .1 .1 .1 .0 ∙ l .inv .0
-    , called .ensures .1 (c .before .enum-told .given .1)
-    , rw (c .next .ensures) (searched-next _ _ (l .pair) (l .inv .2) taken
-        (ap (Option·map _) (sym (pair-deviation _ _ _ (c .before .before .before .before .before .before .before .before .before .before .before .before .before .before .before .before .pre .0) _ _ taken) ∙ nowhere-none _ (sym (c .before .enum-told .given .1) ∙ called .ensures .0))))
+    let called = c .before .before .before .before .before .levels-deviation in (
+      called .kept .1 .1 .1 .1 .1 .1 .1 .0 ∙ l .inv .0,
+      called .ensures .1 (c .before .enum-told .given .1),
+      rw (c .next .ensures) (searched-next _ _ (l .pair) (l .inv .2) taken
+          (ap (Option·map _) (sym (pair-deviation _ _ _ (c .before .before .before .before .before .before .before .before .before .before .before .before .before .before .before .before .pre .0) _ _ taken) ∙ nowhere-none _ (sym (c .before .enum-told .given .1) ∙ called .ensures .0)))),
     )
 
 same-length-2 : tie.Need-same-length-2 Inv-loop μ-loop

@@ -1,0 +1,156 @@
+-- `tally_differences` meets its contract: after each row the counters hold the counts of the differences so far.
+-- Assumes nothing.
+use mathlib.Core.Path.{_≡_, refl, sym}
+use denote.Ref.{now}
+use Prim.Native.Nat.{ℕ, _+_, _-_, _*_, _%_, _≤_, _<_}
+use native.Mathlib.Nat.{zero-mul, le-trans, le-antisymm, lt-of-lt-of-le, mod-lt}
+use native.Mathlib.Omega.{arith}
+use borrow.Author.Needs.{needs}
+use lib.Dec.{lit≤}
+use lib.ListN.{length, getD}
+use Rattle.counting.specs.Matrix.{matrixOf, difference, rowDifference, EntriesInRange}
+use Rattle.counting.specs.Tally.{Tallied}
+use Rattle.counting.proofs.Tallies.{tallied-none, tallied-more, counter-fits}
+use Rattle.counting.proofs.Fits.{place-below, run-more, run-end, offset-fits}
+use Rattle.counting.proofs.tally.tally_differences.Statement.{statement}
+use Rattle.counting.proofs.tally.tally_differences.Tie as tie
+
+abbrev Inv-loop : tie.InvT-loop
+Inv-loop entries rows columns first second p counters₀ start₀ row₀ counters start row =
+    (row ≤ rows)
+    × (start ≡ row * columns)
+    × (length counters ≡ length counters₀)
+    × Tallied counters row (rowDifference (matrixOf entries rows columns p) first second)
+
+abbrev μ-loop : tie.MeasureT-loop
+μ-loop entries rows columns first second p counters₀ start₀ row₀ counters start row = rows - row
+
+first-place : (c : tie.In-loop Inv-loop μ-loop)
+    → c .before .loop .start + c .before .before .args .first < length (now (c .before .before .args .entries))
+first-place c =
+    rw (c .before .loop .inv .1)
+    (place-below (c .loop-test .taken) (c .before .before .pre .1 .0 .0) (c .before .before .pre .0 .whole))
+
+second-place : (c : tie.In-loop Inv-loop μ-loop)
+    → c .before .loop .start + c .before .before .args .second < length (now (c .before .before .args .entries))
+second-place c =
+    rw (c .before .loop .inv .1)
+    (place-below (c .loop-test .taken) (c .before .before .pre .1 .0 .1) (c .before .before .pre .0 .whole))
+
+next-row : (c : tie.In-loop Inv-loop μ-loop)
+    → c .before .loop .start + c .before .before .args .columns ≤ length (now (c .before .before .args .entries))
+next-row c = rw (c .before .loop .inv .1) (run-end _ _ (c .loop-test .taken) (c .before .before .pre .0 .whole))
+
+first-below : (c : tie.In-loop Inv-loop μ-loop)
+    → getD (now (c .before .before .args .entries)) (c .before .loop .start + c .before .before .args .first) 0 < c .before .before .args .p
+unfolding EntriesInRange matrixOf
+first-below c =
+    rw (c .before .loop .inv .1) (c .before .before .pre .0 .in-range _ _ (c .loop-test .taken) (c .before .before .pre .1 .0 .0))
+
+second-below : (c : tie.In-loop Inv-loop μ-loop)
+    → getD (now (c .before .before .args .entries)) (c .before .loop .start + c .before .before .args .second) 0 < c .before .before .args .p
+unfolding EntriesInRange matrixOf
+second-below c =
+    rw (c .before .loop .inv .1) (c .before .before .pre .0 .in-range _ _ (c .loop-test .taken) (c .before .before .pre .1 .0 .1))
+
+counted : (c : tie.In-loop Inv-loop μ-loop) (x : ℕ) → x % c .before .before .args .p < 4096
+counted c x =
+    lt-of-lt-of-le (mod-lt x (le-trans (lit≤ tt) (c .before .before .pre .0 .modulus-from)))
+    (le-trans (c .before .before .pre .0 .modulus-to) (lit≤ tt))
+
+loop-holds : tie.Need-loop-holds Inv-loop μ-loop
+loop-holds c = (search needs, sym (zero-mul _), refl, tallied-none _ (c .pre .1 .1))
+
+add-x : tie.Need-add-x Inv-loop μ-loop
+add-x c = omega (arith, first-place c)
+
+shared-slice-read-x : tie.Need-shared-slice-read-x Inv-loop μ-loop
+shared-slice-read-x c = first-place (c .before)
+
+cast-x : tie.Need-cast-x Inv-loop μ-loop
+cast-x c = omega (arith, first-below (c .before), c .before .before .before .pre .0 .modulus-to)
+
+add-y : tie.Need-add-y Inv-loop μ-loop
+add-y c = omega (arith, second-place (c .before))
+
+shared-slice-read-y : tie.Need-shared-slice-read-y Inv-loop μ-loop
+shared-slice-read-y c = second-place (c .before .before)
+
+cast-y : tie.Need-cast-y Inv-loop μ-loop
+cast-y c = omega (arith, second-below (c .before .before), c .before .before .before .before .pre .0 .modulus-to)
+
+sub-counters : tie.Need-sub-counters Inv-loop μ-loop
+sub-counters c = omega (arith, second-below (c .before .before))
+
+add-counters : tie.Need-add-counters Inv-loop μ-loop
+add-counters c = omega (arith, first-below (c .before .before), second-below (c .before .before), c .before .before .before .before .pre .0 .modulus-to)
+
+rem-counters : tie.Need-rem-counters Inv-loop μ-loop
+rem-counters c = omega (arith, c .before .before .before .before .pre .0 .modulus-from)
+
+mul-counters : tie.Need-mul-counters Inv-loop μ-loop
+mul-counters c = offset-fits (counted (c .before .before) _)
+
+slice-read-counters : tie.Need-slice-read-counters Inv-loop μ-loop
+slice-read-counters c = rw (c .before .before .before .before .loop .inv .3 .size) (counted (c .before .before .before) _)
+
+add-counters-2 : tie.Need-add-counters-2 Inv-loop μ-loop
+add-counters-2 c =
+    let l = c .before .before .before .before .loop in
+    counter-fits (l .inv .3) (le-trans (l .inv .0) (c .before .before .before .before .before .pre .0 .few)) _
+
+slice-write-counters : tie.Need-slice-write-counters Inv-loop μ-loop
+slice-write-counters c = rw (c .before .before .before .before .loop .inv .3 .size) (counted (c .before .before .before) _)
+
+add-start : tie.Need-add-start Inv-loop μ-loop
+add-start c = omega (arith, next-row (c .before .before .before))
+
+add-row : tie.Need-add-row Inv-loop μ-loop
+add-row c = search needs
+
+loop-less : tie.Need-loop-less Inv-loop μ-loop
+loop-less c = search needs
+
+loop-again : tie.Need-loop-again Inv-loop μ-loop
+unfolding rowDifference difference matrixOf
+loop-again c =
+    let l = c .before .before .before .before .loop in (
+      search needs,
+      rw (l .inv .1) (sym (run-more (l .row) _)),
+      search needs,
+      rw (l .inv .1) (tallied-more (l .inv .3) (counted (c .before .before .before) _)),
+    )
+
+same-length : tie.Need-same-length Inv-loop μ-loop
+same-length c = search needs
+
+returns : tie.Need-returns Inv-loop μ-loop
+unfolding matrixOf rowDifference
+returns c = rw (le-antisymm (c .loop-test .left) (c .before .loop .inv .0)) (c .before .loop .inv .3)
+
+pub tally-differences-spec : {M : Type 1} → statement M
+tally-differences-spec =
+    tie.close
+    (tie.spec
+    Inv-loop
+    μ-loop
+    loop-holds
+    add-x
+    shared-slice-read-x
+    cast-x
+    add-y
+    shared-slice-read-y
+    cast-y
+    sub-counters
+    add-counters
+    rem-counters
+    mul-counters
+    slice-read-counters
+    add-counters-2
+    slice-write-counters
+    add-start
+    add-row
+    loop-less
+    loop-again
+    same-length
+    returns)
