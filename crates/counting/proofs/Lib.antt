@@ -1,3 +1,5 @@
+pub mod Lists
+pub mod Digits
 pub mod Fits
 pub mod Deviations
 pub mod PairOrder
@@ -5,3 +7,4 @@ pub mod Tallies
 pub mod TableKeys
 pub mod TableVerdicts
 pub mod MatrixVerdicts
+pub mod GeneratorVerdicts

@@ -2,10 +2,14 @@
 -- 1 where they are named, from 0 here.
 use mathlib.Core.Path.{_≡_}
 use mathlib.Core.Logic.{_≢_}
-use mathlib.Core.List.{List, [], _∷_}
-use Prim.Native.Nat.{ℕ, _+_, _*_, _<_}
+use mathlib.Core.List.{List, [], _∷_, map}
+use Prim.Native.Nat.{ℕ, _+_, _*_, _^_, _<_}
+use lib.ListN.{length}
 use Rattle.counting.specs.Table.{Table, Setting, columns, levelsOf, times}
 use Rattle.counting.specs.Matrix.{Matrix, differences}
+use Rattle.counting.specs.Digits.{digits}
+use Rattle.counting.specs.Generator.{Generator, factors, columnsOf, combination, IndependentColumns}
+use Rattle.counting.specs.declared.verdict.DependenceFault.{DependenceFault}
 use Rattle.counting.specs.declared.verdict.DifferenceFault.{DifferenceFault}
 use Rattle.counting.specs.declared.verdict.TableFault.{TableFault}
 use Rattle.counting.specs.declared.verdict.TableFault.the-variants.{Column, Pair}
@@ -76,3 +80,35 @@ pub record FirstDifference (D : Matrix) (fault : DifferenceFault) : Type 0 where
   pub firsts-before : (a b : ℕ) → a < one → a < b → b < D .columns → EvenDifferences D a b
   pub seconds-before : (b : ℕ) → one < b → b < other → EvenDifferences D one b
   pub differences-before : (v : ℕ) → v < fault .difference → EvenDifference D one other v
+
+-- a field's sum and product
+module _ (plus times : ℕ → ℕ → ℕ) (G : Generator) where
+  -- the coefficient list number v combines the columns to zero
+  unfoldable pub Combines : List ℕ → ℕ → Type 0
+  Combines cs v =
+      (r : ℕ) → r < G .coordinates → combination plus times (digits (G .size) (length cs) v) (map (G .entry r) cs) ≡ 0
+
+  -- v is the least number of a coefficient list but 0 that does
+  pub record LeastDependence (cs : List ℕ) (v : ℕ) : Type 0 where
+    pub number-in : v < G .size ^ length cs
+    pub nonzero : 0 < v
+    pub combines : Combines cs v
+    pub least : (w : ℕ) → 0 < w → w < v → Combines cs w → ⊥
+
+  -- factors i and j are independent
+  abbrev pub IndependentPair : ℕ → ℕ → Type 0
+  IndependentPair i j = IndependentColumns plus times G (columnsOf (G .widths) (i ∷ j ∷ []))
+
+  -- the first two dependent factors, or the only one, with their least dependence
+  pub data FirstDependence : DependenceFault → Type 0 where
+    only : (v : ℕ)
+        → factors G ≡ 1
+        → LeastDependence (columnsOf (G .widths) (0 ∷ [])) v
+        → FirstDependence (record { first = 1; second = 0; coefficients = v })
+    two : (i j v : ℕ)
+        → i < j
+        → j < factors G
+        → LeastDependence (columnsOf (G .widths) (i ∷ j ∷ [])) v
+        → ((a b : ℕ) → a < i → a < b → b < factors G → IndependentPair a b)
+        → ((b : ℕ) → i < b → b < j → IndependentPair i b)
+        → FirstDependence (record { first = i + 1; second = j + 1; coefficients = v })

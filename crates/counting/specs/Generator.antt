@@ -22,6 +22,10 @@ unfoldable pub generatorOf : List ℕ → ℕ → ℕ → List ℕ → Generator
 generatorOf entries t s us =
     record { coordinates = t; size = s; widths = us; entry = λ r c. getD entries (r * width us + c) 0 }
 
+-- every entry is an element of the field, 0 to s - 1
+unfoldable pub ElementsInRange : Generator → Type 0
+ElementsInRange G = (r c : ℕ) → r < G .coordinates → c < width (G .widths) → G .entry r c < G .size
+
 -- n
 abbrev pub factors : Generator → ℕ
 factors G = length (G .widths)

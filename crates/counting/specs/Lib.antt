@@ -4,6 +4,7 @@ pub mod Digits
 pub mod Generator
 pub mod Pairs
 pub mod Verdict
+pub mod GeneratorVerdict
 pub mod Tally
 pub mod Checkable
 pub mod Failures

@@ -43,3 +43,16 @@ pub enum MatrixFinding {
     Passes,
     Fails(DifferenceFault),
 }
+
+// What is wrong with a generator: coefficients, read base s, first highest, that combine the columns of two factors to zero. An only factor
+// has 0 in the place of a second.
+pub struct DependenceFault {
+    pub first: usize,
+    pub second: usize,
+    pub coefficients: usize,
+}
+
+pub enum GeneratorFinding {
+    Passes,
+    Fails(DependenceFault),
+}

@@ -1,12 +1,14 @@
 -- Tests that agree: two that hold together are equal, and what a conjunction of tests says.
 -- Assumes nothing.
 use mathlib.Core.Path.{_≡_, refl, sym, _∙_}
-use mathlib.Core.Logic.{_↔_, by-cases}
+use mathlib.Core.Logic.{_↔_, by-cases, ⊎-elim}
 use mathlib.Core.Bool.{Bool, true, false, _&&_, not}
-use Prim.Native.Nat.{ℕ, _<_}
+use Prim.Native.Nat.{ℕ, zero, suc, _<_}
+use native.Mathlib.Nat.{le-step, lt-suc-self, le-of-suc-le-suc, eq-or-lt-of-le, not-suc-le-zero}
 use native.Mathlib.Decide.{ℕ-discrete}
 use borrow.Author.Tests.{eq-eqb, ne-eqb}
 use lib.Dec.{T, eqb}
+use Rattle.finite.specs.Sum.{every}
 
 -- two tests that hold together are equal
 pub agree : (a b : Bool) → (T a → T b) → (T b → T a) → a ≡ b
@@ -33,3 +35,16 @@ eqb-and-agree a b c d e f to from =
     by-cases (ℕ-discrete c d)
     (λ (p : c ≡ d). rw (eq-eqb c d p) (eqb-agree a b e f (λ q. to q .1) (from p)))
     (λ (n : c ≡ d → ⊥). rw (ne-eqb c d n) (ne-eqb a b (λ q. n (to q .0))))
+
+-- every number below n passes
+pub every-all : (n : ℕ) (f : ℕ → Bool) → ((i : ℕ) → i < n → T (f i)) → T (every n f)
+unfolding every
+every-all zero f h = tt
+every-all (suc n) f h = T-and (every n f) (f n) .1 (every-all n f (λ i l. h i (le-step l)), h n (lt-suc-self n))
+
+pub all-every : (n : ℕ) (f : ℕ → Bool) → T (every n f) → (i : ℕ) → i < n → T (f i)
+unfolding every
+all-every zero f t i h = absurd (not-suc-le-zero h)
+all-every (suc n) f t i h =
+    let both = T-and (every n f) (f n) .0 t in
+    ⊎-elim (λ (e : i ≡ n). rw e (both .1)) (all-every n f (both .0) i) (eq-or-lt-of-le (le-of-suc-le-suc h))

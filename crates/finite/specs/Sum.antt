@@ -1,6 +1,6 @@
 -- Sums and counts over the numbers below n.
 use Prim.Native.Nat.{ℕ, zero, suc, _+_}
-use mathlib.Core.Bool.{Bool, true, false}
+use mathlib.Core.Bool.{Bool, true, false, _&&_}
 
 -- f 0 + f 1 + .. + f (n - 1)
 unfoldable pub sum : ℕ → (ℕ → ℕ) → ℕ
@@ -15,3 +15,8 @@ bit false = 0
 -- how many of the numbers below n pass the test
 unfoldable pub count : ℕ → (ℕ → Bool) → ℕ
 count n test = sum n (λ i. bit (test i))
+
+-- every number below n passes the test
+unfoldable pub every : ℕ → (ℕ → Bool) → Bool
+every zero test = true
+every (suc n) test = every n test && test n
