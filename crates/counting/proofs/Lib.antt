@@ -7,4 +7,6 @@ pub mod Tallies
 pub mod TableKeys
 pub mod TableVerdicts
 pub mod MatrixVerdicts
+pub mod Combinings
 pub mod GeneratorVerdicts
+pub mod House

@@ -5,6 +5,8 @@ pub mod Generator
 pub mod Pairs
 pub mod Verdict
 pub mod GeneratorVerdict
+pub mod Combining
 pub mod Tally
 pub mod Checkable
 pub mod Failures
+pub mod House
