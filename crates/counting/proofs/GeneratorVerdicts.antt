@@ -88,8 +88,8 @@ module _ (plus times : ℕ → ℕ → ℕ) (G : Generator) (positive : 0 < G .s
       ⊎-elim
       (λ (z : v ≡ 0). rw back at (rw (← z) at (zero-list (length cs))))
       (λ (p : 0 < v). absurd
-          (cond-none (dependent cs v) v (none-below _ _ e v (number-below cs ks same b))
-          (dependent-test cs v p (λ r h. rw back (vanish r h)))))
+      (cond-none (dependent cs v) v (none-below _ _ e v (number-below cs ks same b))
+      (dependent-test cs v p (λ r h. rw back (vanish r h)))))
       (eq-zero-or-pos v)
 
   pub independent-none : (cs : List ℕ) → IndependentColumns plus times G cs → dependence plus times G cs ≡ none
@@ -97,9 +97,9 @@ module _ (plus times : ℕ → ℕ → ℕ) (G : Generator) (positive : 0 < G .s
   independent-none cs i =
       first-none _ _
       (λ v h. none-cond (dependent cs v) v
-          (λ t. let d = test-dependent cs v t in
-              lt-irrefl 0 (rw (zero-number (length cs) v h
-                  (i (digits (G .size) (length cs) v) (digits-length (G .size) (length cs) v) (each-below (digits-below positive (length cs) v)) (d .1))) at (d .0))))
+      (λ t. let d = test-dependent cs v t in
+      lt-irrefl 0 (rw (zero-number (length cs) v h
+      (i (digits (G .size) (length cs) v) (digits-length (G .size) (length cs) v) (each-below (digits-below positive (length cs) v)) (d .1))) at (d .0))))
 
   -- what is found is the least dependence
   pub found-dependence : (cs : List ℕ) (v : ℕ) → dependence plus times G cs ≡ some v → LeastDependence plus times G cs v
@@ -108,22 +108,22 @@ module _ (plus times : ℕ → ℕ → ℕ) (G : Generator) (positive : 0 < G .s
       let l = found-least _ _ v e in
       let c = cond-some (dependent cs (l .place)) (l .place) v (l .there) in
       subst (LeastDependence plus times G cs) (c .1)
-      (record
-      { number-in = l .below
-      ; nonzero = test-dependent cs (l .place) (c .0) .0
-      ; combines = test-dependent cs (l .place) (c .0) .1
-      ; least = λ w p h k. cond-none (dependent cs w) w (l .before w h) (dependent-test cs w p k)
+      (record {
+        number-in = l .below;
+        nonzero = test-dependent cs (l .place) (c .0) .0;
+        combines = test-dependent cs (l .place) (c .0) .1;
+        least = λ w p h k. cond-none (dependent cs w) w (l .before w h) (dependent-test cs w p k);
       })
 
   pair-independent : (i j : ℕ) → pairDependence plus times G i j ≡ none → IndependentColumns plus times G (columnsOf (G .widths) (i ∷ j ∷ []))
   pair-independent i j e = none-independent _ (map-eq-none-iff _ _ .0 e)
 
   -- ---- the factors that are tried are those of which the definition speaks
-  fault-only : factors G ≡ 1 → generatorFault plus times G ≡ onlyDependence plus times G
+  pub fault-only : factors G ≡ 1 → generatorFault plus times G ≡ onlyDependence plus times G
   unfolding generatorFault
   fault-only e = rw (eq-eqb (factors G) 1 e)
 
-  fault-pairs : (factors G ≡ 1 → ⊥) → generatorFault plus times G ≡ firstPair (factors G) (pairDependence plus times G)
+  pub fault-pairs : (factors G ≡ 1 → ⊥) → generatorFault plus times G ≡ firstPair (factors G) (pairDependence plus times G)
   unfolding generatorFault
   fault-pairs n = rw (ne-eqb (factors G) 1 n)
 
@@ -146,22 +146,22 @@ module _ (plus times : ℕ → ℕ → ℕ) (G : Generator) (positive : 0 < G .s
       by-cases (ℕ-discrete (factors G) 1)
       (λ (e : factors G ≡ 1). fault-only e ∙ ap (Option·map _) (independent-none _ (i (0 ∷ []) (omega arith) (omega arith))))
       (λ (n : factors G ≡ 1 → ⊥). fault-pairs n
-          ∙ pair-none _ _ (λ a b h k. ap (Option·map _) (independent-none _ (i (a ∷ b ∷ []) (omega arith) (h, k)))))
+      ∙ pair-none _ _ (λ a b h k. ap (Option·map _) (independent-none _ (i (a ∷ b ∷ []) (omega arith) (h, k)))))
 
   -- ---- what is found is the first failure
   first-dependence : (fault : DependenceFault) → generatorFault plus times G ≡ some fault → FirstDependence plus times G fault
   first-dependence fault e =
       by-cases (ℕ-discrete (factors G) 1)
       (λ (o : factors G ≡ 1).
-          let m = map-eq-some-iff _ _ .0 (sym (fault-only o) ∙ e) in
-          subst (FirstDependence plus times G) (m .2) (only (m .0) o (found-dependence _ (m .0) (m .1))))
+      let m = map-eq-some-iff _ _ .0 (sym (fault-only o) ∙ e) in
+      subst (FirstDependence plus times G) (m .2) (only (m .0) o (found-dependence _ (m .0) (m .1))))
       (λ (n : factors G ≡ 1 → ⊥).
-          let l = found-pair _ _ fault (sym (fault-pairs n) ∙ e) in
-          let m = map-eq-some-iff _ _ .0 (l .there) in
-          subst (FirstDependence plus times G) (m .2)
-          (two (l .one) (l .other) (m .0) (l .ordered) (l .below) (found-dependence _ (m .0) (m .1))
-              (λ a b h g k. pair-independent a b (l .earlier a b h g k))
-              (λ b g h. pair-independent (l .one) b (l .nearer b g h))))
+      let l = found-pair _ _ fault (sym (fault-pairs n) ∙ e) in
+      let m = map-eq-some-iff _ _ .0 (l .there) in
+      subst (FirstDependence plus times G) (m .2)
+      (two (l .one) (l .other) (m .0) (l .ordered) (l .below) (found-dependence _ (m .0) (m .1))
+      (λ a b h g k. pair-independent a b (l .earlier a b h g k))
+      (λ b g h. pair-independent (l .one) b (l .nearer b g h))))
 
 -- ---- the verdict, over the seven fields
 fails-not-passes : (f : DependenceFault) → Fails f ≡ Passes → ⊥
@@ -179,10 +179,10 @@ fails-some (some g) f e = let p : g ≡ f = cc in ap some p
 pub generator-passes : (G : Generator) → 0 < G .size
     → (generatorVerdict G ≡ Passes) ↔ Independent (fieldSum (G .size)) (fieldProduct (G .size)) 2 G
 unfolding generatorVerdict
-generator-passes G positive =
-    ( λ e. faults-independent _ _ G positive (passes-none _ e)
-    , λ i. ap generatorFinding (independent-faults _ _ G positive i)
-    )
+generator-passes G positive = (
+  λ e. faults-independent _ _ G positive (passes-none _ e),
+  λ i. ap generatorFinding (independent-faults _ _ G positive i),
+)
 
 -- What a generator's verdict names fails, and nothing before it does.
 pub generator-fails : (G : Generator) → 0 < G .size → (fault : DependenceFault) → generatorVerdict G ≡ Fails fault

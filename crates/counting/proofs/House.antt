@@ -57,10 +57,10 @@ unfolding houseTable
 house-passes n A e =
     ⊎-elim (λ p. subst Passing p passing-101)
     (λ f. ⊎-elim (λ p. subst Passing p passing-102)
-        (λ g. ⊎-elim (λ p. subst Passing p passing-103)
-            (λ h. ⊎-elim (λ p. subst Passing p passing-104) (λ k. absurd (Option·none-ne-some A k)) (cond-some (eqb n 104) house104 A none h))
-            (cond-some (eqb n 103) house103 A _ g))
-        (cond-some (eqb n 102) house102 A _ f))
+    (λ g. ⊎-elim (λ p. subst Passing p passing-103)
+    (λ h. ⊎-elim (λ p. subst Passing p passing-104) (λ k. absurd (Option·none-ne-some A k)) (cond-some (eqb n 104) house104 A none h))
+    (cond-some (eqb n 103) house103 A _ g))
+    (cond-some (eqb n 102) house102 A _ f))
     (cond-some (eqb n 101) house101 A _ e)
 
 pub house-even : (n : ℕ) (A : Table) → houseTable n ≡ some A → Even 2 A

@@ -8,5 +8,6 @@ pub mod TableKeys
 pub mod TableVerdicts
 pub mod MatrixVerdicts
 pub mod Combinings
+pub mod Factors
 pub mod GeneratorVerdicts
 pub mod House

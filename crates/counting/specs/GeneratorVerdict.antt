@@ -38,6 +38,7 @@ module _ (plus times : ℕ → ℕ → ℕ) where
       Option·map (λ (v : ℕ). record { first = 1; second = 0; coefficients = v })
       (dependence G (columnsOf (G .widths) (0 ∷ [])))
 
+  -- the only factor, or the first two in the order 1-2, 1-3, .., 2-3, ..
   unfoldable pub generatorFault : Generator → Option DependenceFault
   generatorFault G = cond (eqb (factors G) 1) (onlyDependence G) (firstPair (factors G) (pairDependence G))
 

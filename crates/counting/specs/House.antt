@@ -15,7 +15,7 @@ writtenTable levels runs = record { runs = length runs; levels = levels; cell = 
 unfoldable pub house101 : Table
 house101 =
     writtenTable (2 ∷ 2 ∷ 2 ∷ [])
-    ( (0 ∷ 0 ∷ 0 ∷ [])
+    ((0 ∷ 0 ∷ 0 ∷ [])
     ∷ (0 ∷ 1 ∷ 1 ∷ [])
     ∷ (1 ∷ 0 ∷ 1 ∷ [])
     ∷ (1 ∷ 1 ∷ 0 ∷ [])
@@ -25,7 +25,7 @@ house101 =
 unfoldable pub house102 : Table
 house102 =
     writtenTable (3 ∷ 3 ∷ 3 ∷ 3 ∷ [])
-    ( (0 ∷ 0 ∷ 0 ∷ 0 ∷ [])
+    ((0 ∷ 0 ∷ 0 ∷ 0 ∷ [])
     ∷ (0 ∷ 1 ∷ 1 ∷ 1 ∷ [])
     ∷ (0 ∷ 2 ∷ 2 ∷ 2 ∷ [])
     ∷ (1 ∷ 0 ∷ 1 ∷ 2 ∷ [])
@@ -40,7 +40,7 @@ house102 =
 unfoldable pub house103 : Table
 house103 =
     writtenTable (3 ∷ 2 ∷ 2 ∷ 2 ∷ 2 ∷ [])
-    ( (0 ∷ 0 ∷ 0 ∷ 0 ∷ 0 ∷ [])
+    ((0 ∷ 0 ∷ 0 ∷ 0 ∷ 0 ∷ [])
     ∷ (0 ∷ 1 ∷ 1 ∷ 1 ∷ 0 ∷ [])
     ∷ (0 ∷ 0 ∷ 1 ∷ 0 ∷ 1 ∷ [])
     ∷ (0 ∷ 1 ∷ 0 ∷ 1 ∷ 1 ∷ [])
@@ -58,7 +58,7 @@ house103 =
 unfoldable pub house104 : Table
 house104 =
     writtenTable (6 ∷ 2 ∷ 2 ∷ [])
-    ( (0 ∷ 0 ∷ 0 ∷ [])
+    ((0 ∷ 0 ∷ 0 ∷ [])
     ∷ (0 ∷ 1 ∷ 1 ∷ [])
     ∷ (1 ∷ 0 ∷ 1 ∷ [])
     ∷ (1 ∷ 1 ∷ 0 ∷ [])

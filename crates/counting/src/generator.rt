@@ -1,15 +1,18 @@
 // The check of a generator: the coefficient lists of every two factors, or of an only one, tried in increasing order until one combines
 // their columns to zero.
 use crate::pairs::IndexPair;
-use crate::verdict::{DependenceFault, GeneratorFinding};
+use crate::verdict::DependenceFault;
+use crate::verdict::GeneratorFinding;
 ghost use mathlib.Core.Path.{_≡_};
-ghost use mathlib.Core.List.{_++_};
-ghost use mathlib.Core.Bool.{Bool};
-ghost use Prim.Native.Nat.{ℕ, _+_, _*_, _/_, _^_, _≤_, _<_};
+ghost use Prim.Native.Nat.{ℕ, _+_, _*_, _^_, _≤_, _<_};
 ghost use lib.ListN.{length, getD};
 ghost use Rattle.finite.specs.Sum.{sum};
+ghost use Rattle.finite.specs.First.{firstPair};
 ghost use Rattle.galois.specs.Arithmetic.{fieldSum, fieldProduct};
-ghost use Rattle.counting.specs.Combining.{combined, ElementsAt};
+ghost use Rattle.counting.specs.Checkable.{CheckableGenerator};
+ghost use Rattle.counting.specs.Generator.{generatorOf, width};
+ghost use Rattle.counting.specs.GeneratorVerdict.{combinesToZero, dependence, pairDependence, generatorFinding, generatorVerdict};
+ghost use Rattle.counting.specs.Combining.{combined, ElementsAt, gridOf, BlocksIn, blockColumns, rowCombination, asDependence, factorBlock};
 
 // Where the columns of a factor start in a row, and how many they are.
 pub struct Block {
@@ -17,6 +20,7 @@ pub struct Block {
     pub width: usize,
 }
 
+// The number of the least coefficient list that combines columns to zero, if there is one.
 pub enum Dependence {
     Nothing,
     Least(usize),
@@ -26,6 +30,164 @@ pub enum Dependence {
 pub struct Combining {
     pub rest: usize,
     pub sum: u8,
+}
+
+// The verdict on the generator whose rows lie one after the other in `entries`.
+pub fn check_generator(entries: &[u8], t: usize, s: u8, widths: &[u8]) -> GeneratorFinding
+    requires { ⌜ CheckableGenerator (now entries) t s (now widths) ⌝ }
+    ensures { λ r. ⌜ r ≡ generatorVerdict (generatorOf (now (entries .entry)) t s (now (widths .entry))) ⌝ }
+{
+    let row = columns_before(widths, widths.len());
+    if widths.len() == 1 {
+        let none = Block { start: 0, width: 0 };
+        return match least_dependence(entries, t, row, s, factor_block(widths, 0), none) {
+            Dependence::Least(coefficients) => GeneratorFinding::Fails(DependenceFault {
+                first: 1,
+                second: 0,
+                coefficients,
+            }),
+            Dependence::Nothing => GeneratorFinding::Passes,
+        };
+    }
+    dependent_pair(entries, t, row, s, widths)
+}
+
+// The first two dependent factors.
+fn dependent_pair(entries: &[u8], t: usize, row: usize, s: u8, widths: &[u8]) -> GeneratorFinding
+    requires { ⌜ CheckableGenerator (now entries) t s (now widths) ⌝ }
+    requires { ⌜ row ≡ width (now widths) ⌝ }
+    ensures { λ r. ⌜ r ≡ generatorFinding (firstPair (length (now (widths .entry))) (pairDependence (fieldSum s) (fieldProduct s) (generatorOf (now (entries .entry)) t s (now (widths .entry))))) ⌝ }
+{
+    let mut pair = IndexPair::start();
+    while pair.second < widths.len() {
+        let first = pair.first;
+        let second = pair.second;
+        let one = factor_block(widths, first);
+        let other = factor_block(widths, second);
+        match least_dependence(entries, t, row, s, one, other) {
+            Dependence::Least(coefficients) => {
+                return GeneratorFinding::Fails(DependenceFault {
+                    first: first + 1,
+                    second: second + 1,
+                    coefficients,
+                });
+            }
+            Dependence::Nothing => {}
+        }
+        pair = pair.next(widths.len());
+    }
+    GeneratorFinding::Passes
+}
+
+// Where a factor's columns stand in a row.
+fn factor_block(widths: &[u8], factor: usize) -> Block
+    requires { ⌜ (factor < length (now widths)) × (length (now widths) ≤ 128) ⌝ }
+    ensures { λ r. ⌜ r ≡ factorBlock (now (widths .entry)) factor ⌝ }
+{
+    Block {
+        start: columns_before(widths, factor),
+        width: widths[factor] as usize,
+    }
+}
+
+// How many columns the first factors have.
+fn columns_before(widths: &[u8], factors: usize) -> usize
+    requires { ⌜ (factors ≤ length (now widths)) × (length (now widths) ≤ 128) ⌝ }
+    ensures { λ r. ⌜ r ≡ sum factors (λ k. getD (now (widths .entry)) k 0) ⌝ }
+{
+    let mut columns = 0;
+    let mut factor = 0;
+    while factor < factors {
+        columns += widths[factor] as usize;
+        factor += 1;
+    }
+    columns
+}
+
+// The least coefficient list but zeros that combines the columns of two blocks to zero.
+fn least_dependence(
+    entries: &[u8],
+    t: usize,
+    row: usize,
+    s: u8,
+    one: Block,
+    other: Block,
+) -> Dependence
+    requires { ⌜ BlocksIn (now entries) t row s one other ⌝ }
+    ensures { λ r. ⌜ r ≡ asDependence (dependence (fieldSum s) (fieldProduct s) (gridOf (now (entries .entry)) t row s) (blockColumns one other)) ⌝ }
+{
+    let end = power(s, one.width) * power(s, other.width);
+    let mut coefficients = 1;
+    while coefficients < end {
+        if combines_to_zero(entries, t, row, s, one, other, coefficients) {
+            return Dependence::Least(coefficients);
+        }
+        coefficients += 1;
+    }
+    Dependence::Nothing
+}
+
+// s to the n-th power.
+fn power(s: u8, n: usize) -> usize
+    requires { ⌜ (0 < s) × (s ^ n ≤ 64) ⌝ }
+    ensures { λ r. ⌜ r ≡ s ^ n ⌝ }
+{
+    let mut product = 1;
+    let mut i = 0;
+    while i < n {
+        product *= s as usize;
+        i += 1;
+    }
+    product
+}
+
+// Whether the coefficients combine the columns of two blocks to zero in every row.
+fn combines_to_zero(
+    entries: &[u8],
+    t: usize,
+    row: usize,
+    s: u8,
+    one: Block,
+    other: Block,
+    coefficients: usize,
+) -> bool
+    requires { ⌜ BlocksIn (now entries) t row s one other ⌝ }
+    ensures { λ r. ⌜ r ≡ combinesToZero (fieldSum s) (fieldProduct s) (gridOf (now (entries .entry)) t row s) (blockColumns one other) coefficients ⌝ }
+{
+    let mut start = 0;
+    let mut i = 0;
+    while i < t {
+        if row_combination(entries, start, s, one, other, coefficients) != 0 {
+            return false;
+        }
+        start += row;
+        i += 1;
+    }
+    true
+}
+
+// The combination of the columns of two blocks in the row that starts at `start`.
+fn row_combination(
+    entries: &[u8],
+    start: usize,
+    s: u8,
+    one: Block,
+    other: Block,
+    coefficients: usize,
+) -> u8
+    requires { ⌜ ElementsAt (now entries) (start + one .start) (start + one .start + one .width) s ⌝ }
+    requires { ⌜ ElementsAt (now entries) (start + other .start) (start + other .start + other .width) s ⌝ }
+    ensures { λ r. ⌜ r ≡ rowCombination (now (entries .entry)) start s one other coefficients ⌝ }
+{
+    let one_start = start + one.start;
+    let other_start = start + other.start;
+    let none = Combining {
+        rest: coefficients,
+        sum: 0,
+    };
+    let last = combine(entries, other_start, other_start + other.width, s, none);
+    let all = combine(entries, one_start, one_start + one.width, s, last);
+    all.sum
 }
 
 // Adds to a combination the elements from `start` to `end`, the last first, each times the next coefficient.

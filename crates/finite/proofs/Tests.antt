@@ -2,7 +2,7 @@
 -- Assumes nothing.
 use mathlib.Core.Path.{_≡_, refl, sym, _∙_}
 use mathlib.Core.Logic.{_↔_, by-cases, ⊎-elim}
-use mathlib.Core.Bool.{Bool, true, false, _&&_, not}
+use mathlib.Core.Bool.{Bool, true, false, _&&_, and-false}
 use Prim.Native.Nat.{ℕ, zero, suc, _<_}
 use native.Mathlib.Nat.{le-step, lt-suc-self, le-of-suc-le-suc, eq-or-lt-of-le, not-suc-le-zero}
 use native.Mathlib.Decide.{ℕ-discrete}
@@ -48,3 +48,18 @@ all-every zero f t i h = absurd (not-suc-le-zero h)
 all-every (suc n) f t i h =
     let both = T-and (every n f) (f n) .0 t in
     ⊎-elim (λ (e : i ≡ n). rw e (both .1)) (all-every n f (both .0) i) (eq-or-lt-of-le (le-of-suc-le-suc h))
+
+-- the same as equations
+pub every-true : (n : ℕ) (f : ℕ → Bool) → ((i : ℕ) → i < n → f i ≡ true) → every n f ≡ true
+unfolding every
+every-true zero f h = refl
+every-true (suc n) f h = rw (every-true n f (λ i l. h i (le-step l))) (h n (lt-suc-self n))
+
+pub every-false : (n : ℕ) (f : ℕ → Bool) (i : ℕ) → i < n → f i ≡ false → every n f ≡ false
+unfolding every
+every-false zero f i h e = absurd (not-suc-le-zero h)
+every-false (suc n) f i h e =
+    ⊎-elim
+    (λ (p : i ≡ n). rw (rw p at e) (and-false (every n f)))
+    (λ (l : i < n). rw (every-false n f i l e))
+    (eq-or-lt-of-le (le-of-suc-le-suc h))

@@ -43,10 +43,10 @@ shared-slice-read-product c = omega (arith, c .before .before .before .before .p
 product-requires : tie.Need-product-requires Inv-loop μ-loop
 product-requires c κs =
     let start = c .before .before .before .before in
-    record
-    { size = start .pre .0 .size
-    ; first = mod-lt _ (size-positive _ (start .pre .0 .size))
-    ; second = start .pre .0 .below _ (omega arith) (omega arith)
+    record {
+      size = start .pre .0 .size;
+      first = mod-lt _ (size-positive _ (start .pre .0 .size));
+      second = start .pre .0 .below _ (omega arith) (omega arith);
     }
 
 product-in : (c : tie.After-product Inv-loop μ-loop) → c .product .result < c .before .before .before .before .before .args .s
@@ -58,10 +58,10 @@ product-in c =
 sum-requires : tie.Need-sum-requires Inv-loop μ-loop
 sum-requires c κs =
     let start = c .before .before .before .before .before in
-    record
-    { size = start .pre .0 .size
-    ; first = product-in c
-    ; second = c .before .before .before .loop .inv .2
+    record {
+      size = start .pre .0 .size;
+      first = product-in c;
+      second = c .before .before .before .loop .inv .2;
     }
 
 div-rest : tie.Need-div-rest Inv-loop μ-loop
@@ -72,11 +72,11 @@ loop-less c = search needs
 
 loop-again : tie.Need-loop-again Inv-loop μ-loop
 loop-again c =
-    let l = c .before .before .before .before .loop in
-    ( search needs
-    , search needs
-    , rw (c .sum .ensures) (sum-below _ (c .before .before .before .before .before .before .pre .0 .size) (product-in (c .before)) (l .inv .2))
-    , rw (c .sum .ensures, c .before .product .ensures) (combined-more _ _ (l .at) _ _ _ (omega arith) (l .inv .1) (l .inv .3))
+    let l = c .before .before .before .before .loop in (
+      search needs,
+      search needs,
+      rw (c .sum .ensures) (sum-below _ (c .before .before .before .before .before .before .pre .0 .size) (product-in (c .before)) (l .inv .2)),
+      rw (c .sum .ensures, c .before .product .ensures) (combined-more _ _ (l .at) _ _ _ (omega arith) (l .inv .1) (l .inv .3)),
     )
 
 returns : tie.Need-returns Inv-loop μ-loop
