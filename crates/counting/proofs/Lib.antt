@@ -10,4 +10,4 @@ pub mod MatrixVerdicts
 pub mod Combinings
 pub mod Factors
 pub mod GeneratorVerdicts
-pub mod House
+pub mod HouseTables

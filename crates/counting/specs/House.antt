@@ -1,9 +1,9 @@
 -- The four house tables of document 01, from 002 Table 4, with 01's runs in 01's order.
-use mathlib.Core.Bool.{cond}
+use mathlib.Core.Bool.{cond, _&&_}
 use mathlib.Core.List.{List, [], _∷_}
 use mathlib.Core.Option.{Option, none, some}
-use Prim.Native.Nat.{ℕ}
-use lib.Dec.{eqb}
+use Prim.Native.Nat.{ℕ, _≤_}
+use lib.Dec.{eqb, leb}
 use lib.ListN.{length, getD}
 use Rattle.counting.specs.Table.{Table}
 
@@ -72,8 +72,15 @@ house104 =
     ∷ (5 ∷ 1 ∷ 0 ∷ [])
     ∷ [])
 
--- by their numbers; there is no other
+-- the numbers of the house tables
+pub record HouseNumber (n : ℕ) : Type 0 where
+  pub low : 101 ≤ n
+  pub high : n ≤ 104
+
+-- the table of such a number
+unfoldable pub houseOf : ℕ → Table
+houseOf n = cond (eqb n 101) house101 (cond (eqb n 102) house102 (cond (eqb n 103) house103 house104))
+
+-- there is no other
 unfoldable pub houseTable : ℕ → Option Table
-houseTable n =
-    cond (eqb n 101) (some house101)
-    (cond (eqb n 102) (some house102) (cond (eqb n 103) (some house103) (cond (eqb n 104) (some house104) none)))
+houseTable n = cond (leb 101 n && leb n 104) (some (houseOf n)) none

@@ -10,3 +10,4 @@ pub mod Tally
 pub mod Checkable
 pub mod Failures
 pub mod House
+pub mod Numbers

@@ -1,13 +1,17 @@
 -- The laws of counts over the numbers below n, each for any range and any test.
 -- Assumes nothing.
-use mathlib.Core.Path.{_≡_, refl, sym, _∙_, ap}
-use mathlib.Core.Bool.{Bool, true, false, _&&_}
+use mathlib.Core.Path.{_≡_, refl, sym, _∙_, ap, ap₂}
+use mathlib.Core.Logic.{by-cases}
+use mathlib.Core.Bool.{Bool, true, false, _&&_, and-comm, and-false}
 use Prim.Native.Nat.{ℕ, zero, suc, _+_, _*_, _≤_, _<_}
-use native.Mathlib.Nat.{mul-one, one-mul, zero-mul, add-le-add, le-refl, zero-add}
+use native.Mathlib.Nat.{mul-one, one-mul, zero-mul, mul-zero, mul-comm, mul-left-comm, le-refl}
+use native.Mathlib.Decide.{ℕ-discrete}
 use native.Mathlib.Omega.{arith}
-use lib.Dec.{T, eqb}
+use borrow.Author.Tests.{eq-eqb, ne-eqb}
+use lib.Dec.{eqb}
 use Rattle.finite.specs.Sum.{sum, count, bit}
-use Rattle.finite.proofs.Sums.{sum-ext, sum-const, sum-zero, sum-mul, sum-exchange, sum-fibres, sum-product}
+use Rattle.finite.proofs.Tests.{eqb-sym}
+use Rattle.finite.proofs.Sums.{sum-ext, sum-add, sum-const, sum-zero, sum-mul, sum-exchange, sum-single, sum-fibres, sum-product}
 
 pub bit-le : (b : Bool) → bit b ≤ 1
 bit-le true = omega arith
@@ -67,3 +71,55 @@ count-product n m f = sum-product n m (λ i. bit (f i))
 pub count-exchange : (n m : ℕ) (f : ℕ → ℕ → Bool) → sum n (λ i. count m (λ j. f i j)) ≡ sum m (λ j. count n (λ i. f i j))
 unfolding count
 count-exchange n m f = sum-exchange n m (λ i j. bit (f i j))
+
+-- a test that is the same for every number
+pub count-const : (n : ℕ) (b : Bool) → count n (λ i. b) ≡ n * bit b
+unfolding count
+count-const n b = sum-const n (bit b)
+
+-- each number below n stands once below n
+pub count-one : (n v : ℕ) → v < n → count n (λ i. eqb i v) ≡ 1
+unfolding count
+count-one n v h = sum-ext n (λ i l. ap bit (eqb-sym i v) ∙ sym (mul-one (bit (eqb v i)))) ∙ sum-single n v (λ i. 1) h
+
+-- no number at all
+pub share-of-none : (n c : ℕ) (f : ℕ → Bool) → n ≡ 0 → c * count n f ≡ n
+share-of-none n c f e = rw (e, count-none) (mul-zero c)
+
+-- a sum of terms c, with d more at the numbers that pass
+pub sum-marked : (n c d : ℕ) (test : ℕ → Bool) → sum n (λ i. c + d * bit (test i)) ≡ n * c + d * count n test
+unfolding count
+sum-marked n c d test =
+    sum-add n (λ i. c) (λ i. d * bit (test i)) ∙ ap₂ _+_ (sum-const n c) (sum-mul n d (λ i. bit (test i)))
+
+-- where each term is N when multiplied by C, so is the sum of the terms that pass a test, N for each
+pub sum-passing : (n C N : ℕ) (f : ℕ → Bool) (g : ℕ → ℕ) → ((v : ℕ) → v < n → C * g v ≡ N)
+    → C * sum n (λ v. bit (f v) * g v) ≡ N * count n f
+unfolding count
+sum-passing n C N f g e =
+    sym (sum-mul n C (λ v. bit (f v) * g v))
+    ∙ sum-ext n (λ v h. mul-left-comm C (bit (f v)) (g v) ∙ ap (λ x. bit (f v) * x) (e v h) ∙ mul-comm (bit (f v)) N)
+    ∙ sum-mul n N (λ v. bit (f v))
+
+-- one for each number, m more for c, and nothing for those that are left out
+pub sum-balance : (n m c : ℕ) (f : ℕ → ℕ) (out : ℕ → Bool) → c < n → ((q : ℕ) → q < n → f q + bit (out q) ≡ 1 + m * bit (eqb q c))
+    → sum n f + count n out ≡ n + m
+unfolding count
+sum-balance n m c f out h e =
+    sym (sum-add n f (λ q. bit (out q)))
+    ∙ sum-ext n e
+    ∙ sum-marked n 1 m (λ q. eqb q c)
+    ∙ ap₂ _+_ (mul-one n) (ap (λ x. m * x) (count-one n c h) ∙ mul-one m)
+
+-- a count of what passes a test of its own and a test of its value, value by value
+pub count-through : (n k : ℕ) (value : ℕ → ℕ) (f test : ℕ → Bool) → ((i : ℕ) → i < n → value i < k)
+    → count n (λ i. f i && test (value i)) ≡ sum k (λ v. bit (test v) * count n (λ i. eqb (value i) v && f i))
+count-through n k value f test below =
+    count-fibres n k value (λ i. f i && test (value i)) below
+    ∙ sum-ext k (λ v l. count-ext n (λ i h. at v i) ∙ count-and n (test v) (λ i. eqb (value i) v && f i))
+  where
+    at : (v i : ℕ) → (eqb (value i) v && (f i && test (value i))) ≡ (test v && (eqb (value i) v && f i))
+    at v i =
+        by-cases (ℕ-discrete (value i) v)
+        (λ e. rw (eq-eqb (value i) v e, ← e) (and-comm (f i) (test (value i))))
+        (λ n. rw (ne-eqb (value i) v n) (sym (and-false (test v))))

@@ -3,7 +3,7 @@
 use mathlib.Core.Path.{_≡_, refl, sym, _∙_, ap, ap₂}
 use mathlib.Core.Logic.{⊎-elim}
 use Prim.Native.Nat.{ℕ, zero, suc, _+_, _*_, _≤_, _<_}
-use native.Mathlib.Nat.{add-zero, zero-add, add-suc, add-assoc, mul-add, mul-zero, zero-mul, one-mul, suc-mul, le-step, le-of-eq, lt-suc-self, le-of-suc-le-suc, eq-or-lt-of-le, not-suc-le-zero}
+use native.Mathlib.Nat.{add-zero, zero-add, add-suc, add-assoc, mul-add, mul-zero, zero-mul, one-mul, suc-mul, le-step, le-of-eq, lt-suc-self, le-of-suc-le-suc, eq-or-lt-of-le, not-suc-le-zero, le-dest, le-add-right}
 use native.Mathlib.Omega.{arith}
 use borrow.Author.Tests.{eq-eqb, ne-eqb}
 use lib.Dec.{eqb}
@@ -89,3 +89,15 @@ sum-permute n π ρ πbelow ρbelow ρπ πρ f =
     sum-fibres n n π (λ i. f (π i)) πbelow
     ∙ sum-ext n (λ v h. sum-ext n (λ i l. rw (eqb-agree (π i) v (ρ v) i (λ e. ap ρ (sym e) ∙ ρπ i l) (λ e. ap π (sym e) ∙ πρ v h)))
     ∙ sum-single n (ρ v) (λ i. f (π i)) (ρbelow v h) ∙ ap f (πρ v h))
+
+-- the first term by itself
+pub sum-first : (n : ℕ) (f : ℕ → ℕ) → sum (suc n) f ≡ f 0 + sum n (λ i. f (suc i))
+unfolding sum
+sum-first zero f = omega arith
+sum-first (suc n) f = ap (λ x. x + f (suc n)) (sum-first n f) ∙ add-assoc (f 0) (sum n (λ i. f (suc i))) (f (suc n))
+
+-- a sum over more numbers is no less
+pub sum-le : {n m : ℕ} (f : ℕ → ℕ) → n ≤ m → sum n f ≤ sum m f
+sum-le {n} f h =
+    let (k, e) = le-dest h in
+    rw (← e, sum-split n k f) (le-add-right _ _)

@@ -63,3 +63,14 @@ every-false (suc n) f i h e =
     (λ (p : i ≡ n). rw (rw p at e) (and-false (every n f)))
     (λ (l : i < n). rw (every-false n f i l e))
     (eq-or-lt-of-le (le-of-suc-le-suc h))
+
+pub and-left-comm : (a b c : Bool) → (a && (b && c)) ≡ (b && (a && c))
+and-left-comm true b c = refl
+and-left-comm false true c = refl
+and-left-comm false false c = refl
+
+pub T-eqb : (a b : ℕ) → a ≡ b → T (eqb a b)
+T-eqb a b e = rw (eq-eqb a b e) tt
+
+pub eqb-sym : (a b : ℕ) → eqb a b ≡ eqb b a
+eqb-sym a b = eqb-agree a b b a sym sym

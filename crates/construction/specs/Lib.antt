@@ -1,0 +1,11 @@
+pub mod Lists
+pub mod Sheet
+pub mod Field
+pub mod Sum
+pub mod Merge
+pub mod Split
+pub mod Refusals
+pub mod Ingredients
+pub mod Steps
+pub mod Outcome
+pub mod Fillable

@@ -1,0 +1,63 @@
+// What an order comes to.
+
+// Why an order is refused: document 01, "The questions, in turn". Columns, factors, steps, ingredients and members are named from 1; places, runs
+// and levels from 0; `times` is a number of runs.
+pub enum Refusal {
+    ShortBuffers,
+    Unreadable {
+        place: usize,
+    },
+    EntryOutOfRange {
+        place: usize,
+    },
+    UnevenLevel {
+        ingredient: usize,
+        column: usize,
+        level: usize,
+        times: usize,
+    },
+    UnevenPair {
+        ingredient: usize,
+        first: usize,
+        second: usize,
+        first_level: usize,
+        second_level: usize,
+        times: usize,
+    },
+    UnevenDifference {
+        ingredient: usize,
+        first: usize,
+        second: usize,
+        difference: usize,
+        times: usize,
+    },
+    // The coefficients are read base s, the first highest; an only factor has 0 in the place of a second.
+    Dependent {
+        ingredient: usize,
+        first: usize,
+        second: usize,
+        coefficients: usize,
+    },
+    StepNotAllowed {
+        step: usize,
+    },
+    PartsDoNotFit {
+        step: usize,
+    },
+    NotTheSum {
+        step: usize,
+        run: usize,
+        member: usize,
+    },
+    TooLarge {
+        step: usize,
+        runs: usize,
+        columns: usize,
+    },
+}
+
+// The size of the table that was written, or why there is none.
+pub enum Answer {
+    Filled { runs: usize, columns: usize },
+    Refused(Refusal),
+}

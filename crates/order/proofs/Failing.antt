@@ -1,0 +1,49 @@
+-- The first number that fails a test: one step of the search, its result when no number fails, and equal tests.
+use mathlib.Core.Path.{_≡_, refl}
+use mathlib.Core.Logic.{_↔_}
+use mathlib.Core.Bool.{Bool, true, false}
+use Prim.Native.Nat.{ℕ, zero, suc, _+_, _-_, _≤_, _<_}
+use native.Mathlib.Nat.{add-zero}
+use native.Mathlib.Omega.{arith}
+use Rattle.order.specs.Reader.{when}
+use Rattle.order.specs.Range.{firstFailing}
+use Rattle.order.specs.declared.Entries.the-variants.{InRange, OutOfRange}
+
+module _ (ok : ℕ → Bool) (start : ℕ) where
+  pub failing-on : (left q : ℕ) → 0 < left → ok q ≡ true → firstFailing ok start left q ≡ firstFailing ok start (left - 1) (q + 1)
+  failing-on zero q h e = absurd (omega arith)
+  failing-on (suc left) q h e = let less : suc left - 1 ≡ left = omega arith in rw (less, e)
+
+  pub failing-stop : (left q : ℕ) → 0 < left → ok q ≡ false → firstFailing ok start left q ≡ OutOfRange (start + q)
+  failing-stop zero q h e = absurd (omega arith)
+  failing-stop (suc left) q h e = rw e
+
+  pub failing-done : (left q : ℕ) → left ≤ 0 → firstFailing ok start left q ≡ InRange
+  failing-done zero q h = refl
+  failing-done (suc left) q h = absurd (omega arith)
+
+  -- All pass where the first does and all after it.
+  one-more : (left q : ℕ) → ok q ≡ true → ((j : ℕ) → j < left → ok (q + 1 + j) ≡ true) → (j : ℕ) → j < suc left → ok (q + j) ≡ true
+  one-more left q e all zero h = rw add-zero e
+  one-more left q e all (suc j) h = let same : q + suc j ≡ q + 1 + j = omega arith in rw same (all j (omega arith))
+
+  one-less : (left q : ℕ) → ((j : ℕ) → j < suc left → ok (q + j) ≡ true) → (j : ℕ) → j < left → ok (q + 1 + j) ≡ true
+  one-less left q all j h = let same : q + 1 + j ≡ q + suc j = omega arith in rw same (all (suc j) (omega arith))
+
+  -- None fails exactly where all pass.
+  pub failing-none : (left q : ℕ) → (firstFailing ok start left q ≡ InRange) ↔ ((j : ℕ) → j < left → ok (q + j) ≡ true)
+  failing-none zero q = (λ e j h. absurd (omega arith), λ h. refl)
+  failing-none (suc left) q = go (ok q) refl (failing-none left (q + 1))
+    where
+      go : (b : Bool) → ok q ≡ b → (firstFailing ok start left (q + 1) ≡ InRange) ↔ ((j : ℕ) → j < left → ok (q + 1 + j) ≡ true) → (when b (firstFailing ok start left (q + 1)) (OutOfRange (start + q)) ≡ InRange) ↔ ((j : ℕ) → j < suc left → ok (q + j) ≡ true)
+      go true e rest = (λ h. one-more left q e (rest .0 h), λ all. rest .1 (one-less left q all))
+      go false e rest = (
+        λ h. absurd (let z : _≡_ {A = ℕ} 0 1 = cc in omega arith),
+        λ all. absurd (let first : ok q ≡ true = rw add-zero at (all 0 (omega arith)) in let z : _≡_ {A = ℕ} 0 1 = cc in omega arith),
+      )
+
+-- The same numbers fail two tests that agree.
+pub failing-same : (ok ok′ : ℕ → Bool) (start left q : ℕ) → ((j : ℕ) → q ≤ j → j < q + left → ok j ≡ ok′ j) → firstFailing ok start left q ≡ firstFailing ok′ start left q
+failing-same ok ok′ start zero q h = refl
+failing-same ok ok′ start (suc left) q h =
+    rw (h q (omega arith) (omega arith), failing-same ok ok′ start left (q + 1) (λ j low high. h j (omega arith) (omega arith)))

@@ -1,0 +1,31 @@
+-- Bounds on small powers.
+use mathlib.Core.Path.{_≡_, sym}
+use Prim.Native.Nat.{ℕ, suc, _*_, _^_, _≤_, _<_}
+use native.Mathlib.Nat.{pow-suc, pow-le-pow-left, pow-le-pow-right, le-trans, lt-of-le-of-lt, lt-of-lt-of-le, mul-le-mul}
+use native.Mathlib.Omega.{arith}
+use native.Mathlib.Decide.{decLe}
+use lib.Dec.{lit<}
+use Rattle.order.specs.Order.{Width}
+
+-- A power with base and exponent below 9, times its base, is far below 2^64.
+pub small-power : {r s i : ℕ} → r ≡ s ^ i → s ≤ 9 → i < 9 → r * s < 2 ^ 64
+small-power {r} {s} {i} e hs hi =
+    let next : r * s ≡ s ^ suc i = rw e (sym (pow-suc s i)) in
+    rw next (lt-of-le-of-lt (le-trans (pow-le-pow-left hs (suc i)) (pow-le-pow-right {n = 9} (omega arith) hi)) (lit< tt))
+
+-- Of a base from 2 on, no exponent over 6 has a power of at most 64.
+pub large-power : (s u : ℕ) → 2 ≤ s → 6 < u → 64 < s ^ u
+large-power s u hs hu =
+    lt-of-lt-of-le (lit< tt) (le-trans (pow-le-pow-right {n = 2} (omega arith) hu) (pow-le-pow-left hs u))
+
+-- So the widths of factors are at most 6.
+pub width-small : (s u : ℕ) → 2 ≤ s → Width s u → u ≤ 6
+width-small s u hs h =
+    elim (decLe u 6) [
+      | yes small ↦ small
+      | no large ↦ absurd (omega (arith, large-power s u hs (omega arith)))
+    ]
+
+-- The number of entries of a table or matrix, and of a generator, fits.
+pub product-fits : {a b : ℕ} → a ≤ 512 → b ≤ 768 → a * b < 2 ^ 64
+product-fits ha hb = lt-of-le-of-lt (mul-le-mul ha hb) (lit< tt)

@@ -1,0 +1,7 @@
+pub mod Order
+pub mod Reader
+pub mod Grammar
+pub mod Answers
+pub mod Range
+pub mod Search
+pub mod Places
