@@ -1,4 +1,4 @@
--- The starred examples of document 01, as cases of one table: what the definitions give is what 01 says. Computed.
+-- The starred examples of document 01, and the one that it prints, as cases of one table: what the definitions give is what 01 says. Computed.
 -- Assumes nothing.
 use mathlib.Core.Path.{_≡_, refl}
 use mathlib.Core.List.{List, [], _∷_, map, flatMap}
@@ -20,7 +20,7 @@ use Rattle.order.specs.Range.{ingredientRange, rangeOf}
 use Rattle.construction.specs.Sheet.{fromSources, takeStep, smallEnough}
 use Rattle.construction.specs.Field.{columnElements, values, fieldTable}
 use Rattle.construction.specs.Sum.{levelSum, rowsOf, serving, adjoinedTable, summedWith, sumPlace, sumSources, sumLevels, sumEntry, sumValue, sumStep, sumFits}
-use Rattle.construction.specs.Merge.{mergeFits}
+use Rattle.construction.specs.Merge.{mergePlace, mergeSources, mergeLevels, mergedLevel, mergeValue, mergeStep, mergeFits, memberSum, memberFaultAt, memberFault}
 use Rattle.construction.specs.Refusals.{numbered}
 use Rattle.construction.specs.Ingredients.{asTable, asMatrix, asGenerator, listed, tableNamed, matrixNamed, generatorNamed, matricesNamed, adjoinedNamed}
 use Rattle.construction.specs.Steps.{Outcome, filled, refused, proceed, provided, fieldStep, opening, operation, fits, wrongMember, applied, sized, afterSums, operate, firstStep, laterStep, laterSteps, allSteps}
@@ -99,10 +99,12 @@ examples =
     gives run (3 ∷ 3 ∷ 0 ∷ 2 ∷ 1 ∷ []))
     -- TAKE 101, MERGE 2 on 1 1 2
     ∷ (order (0 ∷ 2 ∷ 1 ∷ 101 ∷ 4 ∷ 2 ∷ 1 ∷ 1 ∷ 2 ∷ []) gives refusal (9 ∷ 2 ∷ 0 ∷ 0 ∷ 0 ∷ 0 ∷ 0 ∷ []))
+    -- the printed example: TAKE 101, MERGE 2 on 1 2 3
+    ∷ (order (0 ∷ 2 ∷ 1 ∷ 101 ∷ 4 ∷ 2 ∷ 1 ∷ 2 ∷ 3 ∷ []) gives runTable (4 ∷ []) ((0 ∷ []) ∷ (1 ∷ []) ∷ (2 ∷ []) ∷ (3 ∷ []) ∷ []))
     -- the empty list
     ∷ (order [] gives refusal (2 ∷ 0 ∷ 0 ∷ 0 ∷ 0 ∷ 0 ∷ 0 ∷ []))
     ∷ []
 
 pub starred : map (λ (e : Example). computed (e .asked)) examples ≡ map (λ (e : Example). e .expected) examples
-unfolding bind flatMap sum count every first firstAfter firstPair fieldSum fieldProduct digits numeral tableOf shows times matrixOf difference rowDifference differences generatorOf width from factorColumns columnsOf combination deviation columnDeviation pairDeviation columnsFault pairsFault tableVerdict differenceDeviation matrixVerdict combinesToZero dependence generatorFault generatorVerdict houseTable houseOf house101 allowed numbers tableBody matrixBody generatorBody readIngredient readNaming readSum readMerge readSplit readStep readParts readOrder ingredientRange rangeOf fromSources takeStep smallEnough columnElements values fieldTable levelSum rowsOf serving adjoinedTable summedWith sumPlace sumSources sumLevels sumEntry sumValue sumStep sumFits mergeFits numbered asTable asMatrix asGenerator listed tableNamed matrixNamed generatorNamed matricesNamed adjoinedNamed proceed provided fieldStep opening operation fits wrongMember applied sized afterSums operate firstStep laterStep laterSteps allSteps rangeRefusal tableRefusal matrixRefusal generatorRefusal ingredientRefusal ingredientsRefusal unless readOutcome outcome
+unfolding bind flatMap sum count every first firstAfter firstPair fieldSum fieldProduct digits numeral tableOf shows times matrixOf difference rowDifference differences generatorOf width from factorColumns columnsOf combination deviation columnDeviation pairDeviation columnsFault pairsFault tableVerdict differenceDeviation matrixVerdict combinesToZero dependence generatorFault generatorVerdict houseTable houseOf house101 allowed numbers tableBody matrixBody generatorBody readIngredient readNaming readSum readMerge readSplit readStep readParts readOrder ingredientRange rangeOf fromSources takeStep smallEnough columnElements values fieldTable levelSum rowsOf serving adjoinedTable summedWith sumPlace sumSources sumLevels sumEntry sumValue sumStep sumFits mergePlace mergeSources mergeLevels mergedLevel mergeValue mergeStep mergeFits memberSum memberFaultAt memberFault numbered asTable asMatrix asGenerator listed tableNamed matrixNamed generatorNamed matricesNamed adjoinedNamed proceed provided fieldStep opening operation fits wrongMember applied sized afterSums operate firstStep laterStep laterSteps allSteps rangeRefusal tableRefusal matrixRefusal generatorRefusal ingredientRefusal ingredientsRefusal unless readOutcome outcome
 starred = refl

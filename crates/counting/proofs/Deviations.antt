@@ -1,15 +1,13 @@
 -- What a deviation from an even count says: none where every value stands in its share of the runs, else the lowest that does not.
 -- Assumes nothing.
-use mathlib.Core.Path.{_≡_, refl, sym, _∙_, ap, subst}
+use mathlib.Core.Path.{_≡_, refl, sym, ap, subst}
 use mathlib.Core.Bool.{Bool, true, false, cond}
 use mathlib.Core.Logic.{_≢_}
 use mathlib.Core.Option.{Option, none, some, Option·none-ne-some, Option·some-injective}
 use Prim.Native.Nat.{ℕ, _*_, _<_}
 use native.Mathlib.Omega.{arith}
-use lib.Dec.{eqb}
 use borrow.Author.Tests.{eq-eqb, ne-eqb, eqb-true, eqb-false}
-use Rattle.finite.specs.First.{first}
-use Rattle.finite.proofs.Firsts.{first-ext, first-none, first-at, none-below, found-least, Least}
+use Rattle.finite.proofs.Firsts.{first-ext, first-none, first-at, none-below, found-least}
 use Rattle.counting.specs.Verdict.{Counted, deviation, asDeviation, tableFinding}
 use Rattle.counting.specs.declared.verdict.Deviation.the-variants.{At, Nowhere}
 use Rattle.counting.specs.declared.verdict.TableFault.{TableFault}

@@ -4,29 +4,28 @@
 use mathlib.Core.Path.{_≡_, refl, sym, _∙_, ap, subst}
 use mathlib.Core.Logic.{_↔_, by-cases, ⊎-elim}
 use mathlib.Core.Bool.{Bool, true, false, cond, _&&_}
-use mathlib.Core.List.{List, [], _∷_, map}
+use mathlib.Core.List.{List, [], _∷_}
 use mathlib.Core.Option.{Option, none, some, Option·map, Option·none-ne-some, Option·some-ne-none, Option·some-injective, map-eq-none-iff, map-eq-some-iff}
-use Prim.Native.Nat.{ℕ, zero, suc, _+_, _^_, _≤_, _<_, min}
+use Prim.Native.Nat.{ℕ, _^_, _<_}
 use native.Mathlib.Nat.{eq-zero-or-pos, lt-irrefl, one-le-pow}
 use native.Mathlib.Decide.{ℕ-discrete}
 use native.Mathlib.Omega.{arith}
-use borrow.Author.Tests.{eq-eqb, ne-eqb, ltb-true}
+use borrow.Author.Tests.{eq-eqb, ne-eqb}
 use lib.Arith.{lt-one}
-use lib.Dec.{T, eqb, ltb, eqb→eq, eqb-refl, lt→ltb, ltb→lt, lit<}
-use lib.ListN.{length, replicate}
-use Rattle.finite.specs.Sum.{every}
-use Rattle.finite.specs.First.{first, firstPair}
+use lib.Dec.{T, ltb, eqb→eq, lt→ltb, ltb→lt, lit<}
+use lib.ListN.{length}
+use Rattle.finite.specs.First.{firstPair}
 use Rattle.finite.proofs.Tests.{T-and, every-all, all-every}
 use Rattle.finite.proofs.Firsts.{first-none, none-below, found-least, pair-none, none-pair, found-pair}
 use Rattle.galois.specs.Arithmetic.{fieldSum, fieldProduct}
 use Rattle.counting.specs.Digits.{digits, numeral}
-use Rattle.counting.specs.Generator.{Generator, factors, columnsOf, combination, AllBelow, Increasing, IndependentColumns, Independent}
+use Rattle.counting.specs.Generator.{Generator, factors, columnsOf, AllBelow, Increasing, IndependentColumns, Independent}
 use Rattle.counting.specs.GeneratorVerdict.{combinesToZero, dependence, pairDependence, onlyDependence, generatorFault, generatorFinding, generatorVerdict}
 use Rattle.counting.specs.Failures.{Combines, LeastDependence, FirstDependence, only, two}
 use Rattle.counting.specs.declared.verdict.DependenceFault.{DependenceFault}
 use Rattle.counting.specs.declared.verdict.GeneratorFinding.the-variants.{Passes, Fails}
 use Rattle.counting.proofs.Lists.{Below, all-below, each-below, all-zero, below-replicate}
-use Rattle.counting.proofs.Digits.{digits-length, digits-zero, digits-below, numeral-below, digits-numeral, numeral-digits, digits-injective}
+use Rattle.counting.proofs.Digits.{digits-length, digits-zero, digits-below, numeral-below, digits-numeral, digits-injective}
 
 cond-none : {A : Type 0} (b : Bool) (a : A) → cond b (some a) none ≡ none → T b → ⊥
 cond-none true a e t = Option·some-ne-none a e

@@ -1,13 +1,12 @@
 -- The verdict on a matrix passes exactly when it is a difference matrix; otherwise it names the first failure.
 -- Assumes nothing.
-use mathlib.Core.Path.{_≡_, refl, sym, _∙_, ap, subst}
+use mathlib.Core.Path.{_≡_, refl, sym, ap, subst}
 use mathlib.Core.Logic.{_↔_}
 use mathlib.Core.Option.{Option, none, some, Option·map, map-eq-none-iff, map-eq-some-iff}
-use Prim.Native.Nat.{ℕ, _+_, _*_, _<_}
+use Prim.Native.Nat.{ℕ, _+_, _<_}
 use native.Mathlib.Omega.{arith}
-use Rattle.finite.specs.First.{firstPair}
 use Rattle.finite.proofs.Firsts.{pair-none, none-pair, found-pair}
-use Rattle.counting.specs.Matrix.{Matrix, differences, DifferenceMatrix}
+use Rattle.counting.specs.Matrix.{Matrix, DifferenceMatrix}
 use Rattle.counting.specs.Verdict.{Counted, asDeviation, differenceDeviation, differenceFault, matrixFinding, matrixVerdict}
 use Rattle.counting.specs.Failures.{EvenDifference, EvenDifferences, FirstDifference}
 use Rattle.counting.specs.declared.verdict.Deviation.the-variants.{At, Nowhere}

@@ -16,12 +16,12 @@ use Rattle.finite.proofs.Counts.{count-ext, count-all}
 use Rattle.finite.proofs.Firsts.{first-none, none-below, found-least, pair-none, none-pair, found-pair}
 use Rattle.counting.specs.Table.{Table, Setting, columns, levelsOf, shows, times, combinations, Apart, Settings, Even}
 use Rattle.counting.specs.Verdict.{Counted, columnDeviation, columnFault, columnsFault, pairAt, pairDeviation, pairFault, pairsFault, tableFinding, tableVerdict}
-use Rattle.counting.specs.Failures.{EvenLevel, EvenPair, EvenColumn, EvenColumns, FirstLevel, FirstPair, FirstFault, level, pair}
+use Rattle.counting.specs.Failures.{EvenLevel, EvenPair, EvenColumn, EvenColumns, FirstFault, level, pair}
 use Rattle.counting.specs.declared.verdict.TableFault.{TableFault}
 use Rattle.counting.specs.declared.verdict.TableFault.the-variants.{Column, Pair}
 use Rattle.counting.specs.declared.verdict.TableFinding.the-variants.{Passes, Fails}
 use Rattle.counting.specs.declared.verdict.TableVerdict.{TableVerdict}
-use Rattle.counting.proofs.Deviations.{deviation-none, none-even, passes-none, fails-some, Lowest, some-lowest}
+use Rattle.counting.proofs.Deviations.{deviation-none, none-even, passes-none, fails-some, some-lowest}
 
 -- a level of a column, and levels of two columns
 abbrev one : ℕ → ℕ → List Setting

@@ -1,11 +1,10 @@
 -- What a verdict names: something that does fail, with nothing before it that does (document 01, question 4). Columns and factors count from
 -- 1 where they are named, from 0 here.
 use mathlib.Core.Path.{_≡_}
-use mathlib.Core.Logic.{_≢_}
 use mathlib.Core.List.{List, [], _∷_, map}
 use Prim.Native.Nat.{ℕ, _+_, _*_, _^_, _<_}
 use lib.ListN.{length}
-use Rattle.counting.specs.Table.{Table, Setting, columns, levelsOf, times}
+use Rattle.counting.specs.Table.{Table, columns, levelsOf, times}
 use Rattle.counting.specs.Matrix.{Matrix, differences}
 use Rattle.counting.specs.Digits.{digits}
 use Rattle.counting.specs.Generator.{Generator, factors, columnsOf, combination, IndependentColumns}

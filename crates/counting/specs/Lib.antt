@@ -10,4 +10,3 @@ pub mod Tally
 pub mod Checkable
 pub mod Failures
 pub mod House
-pub mod Numbers

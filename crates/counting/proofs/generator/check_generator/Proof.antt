@@ -1,6 +1,6 @@
 -- `check_generator` meets its contract: an only factor by itself, else the pairs.
 -- Assumes nothing.
-use mathlib.Core.Path.{refl, sym, _∙_, ap}
+use mathlib.Core.Path.{sym, _∙_, ap}
 use native.Mathlib.Omega.{arith}
 use Rattle.counting.specs.Generator.{generatorOf, width}
 use Rattle.counting.specs.GeneratorVerdict.{generatorFinding, generatorVerdict}

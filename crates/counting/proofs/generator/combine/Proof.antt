@@ -1,7 +1,7 @@
 -- `combine` meets its contract: what is combined so far is the combination from the place in hand on.
 -- Assumes nothing.
 use mathlib.Core.Path.{_≡_, sym}
-use Prim.Native.Nat.{ℕ, _+_, _-_, _≤_, _<_}
+use Prim.Native.Nat.{_≤_, _<_}
 use native.Mathlib.Nat.{le-refl, le-antisymm, lt-trans, mod-lt}
 use native.Mathlib.Omega.{arith}
 use borrow.Author.Needs.{needs}
@@ -9,10 +9,6 @@ use Rattle.counting.specs.Combining.{combined}
 use Rattle.counting.proofs.Combinings.{combined-none, combined-more, size-positive, sum-below, product-below}
 use Rattle.counting.proofs.generator.combine.Statement.{statement}
 use Rattle.counting.proofs.generator.combine.Tie as tie
-use Rattle.counting.proofs.generator.combine.Reads as reads
-use Rattle.counting.proofs.generator.combine.Lts as lts
-use Rattle.galois.proofs.product.Reads as product-reads
-use Rattle.galois.proofs.sum.Reads as sum-reads
 
 abbrev Inv-loop : tie.InvT-loop
 Inv-loop entries start end s rest₀ sum₀ at₀ rest sum at =

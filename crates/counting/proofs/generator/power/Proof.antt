@@ -1,10 +1,9 @@
 -- `power` meets its contract: the product so far is the power so far, which no later one falls below.
 -- Assumes nothing.
-use mathlib.Core.Path.{_≡_, refl, sym, _∙_, ap}
-use Prim.Native.Nat.{ℕ, _+_, _-_, _*_, _^_, _≤_}
+use mathlib.Core.Path.{_≡_, sym}
+use Prim.Native.Nat.{_-_, _^_, _≤_}
 use native.Mathlib.Nat.{le-trans, le-antisymm, pow-zero, pow-suc, pow-le-pow-right}
 use native.Mathlib.Numerals.{add-one}
-use native.Mathlib.Omega.{arith}
 use Rattle.counting.proofs.Fits.{product-fits}
 use borrow.Author.Needs.{needs}
 use Rattle.counting.proofs.generator.power.Statement.{statement}

@@ -1,8 +1,5 @@
 -- `row_combination` meets its contract: the later block is combined first, and the earlier one onto it.
 -- Assumes nothing.
-use mathlib.Core.Path.{_≡_, sym, _∙_, ap}
-use lib.Dec.{T}
-use Rattle.counting.specs.declared.generator.Combining.{Combining}
 use Rattle.counting.proofs.Combinings.{size-positive, combined-below, row-combined}
 use borrow.Author.Needs.{needs}
 use Rattle.counting.proofs.generator.row_combination.Statement.{statement}

@@ -1,6 +1,5 @@
 -- `house::cell` meets its contract: each arm's constant is that of the table with the arm's number.
 -- Assumes nothing.
-use mathlib.Core.Path.{refl}
 use native.Mathlib.Omega.{arith}
 use Rattle.counting.specs.House.{houseOf, house101, house102, house103, house104}
 use Rattle.counting.proofs.HouseTables.{house-at, last-house}

@@ -1,6 +1,5 @@
 -- `house::level_count` meets its contract: each arm's constant is that of the table with the arm's number.
 -- Assumes nothing.
-use mathlib.Core.Path.{refl}
 use Rattle.counting.specs.House.{houseOf, house101, house102, house103, house104}
 use Rattle.counting.proofs.HouseTables.{house-at, last-house}
 use Rattle.counting.proofs.house.level_count.Statement.{statement}

@@ -11,11 +11,6 @@ use Rattle.counting.proofs.PairOrder.{Searched, searched-start, searche
 use Rattle.counting.proofs.Tallies.{cleared-made}
 use Rattle.counting.proofs.matrix.check_matrix.Statement.{statement}
 use Rattle.counting.proofs.matrix.check_matrix.Tie as tie
-use Rattle.counting.proofs.matrix.check_matrix.Reads as reads
-use Rattle.counting.proofs.matrix.check_matrix.Lts as lts
-use Rattle.counting.proofs.pairs.IndexPair.next.Reads as next-reads
-use Rattle.counting.proofs.pairs.IndexPair.start.Reads as start-reads
-use Rattle.counting.proofs.tally.differences_deviation.Reads as differences-deviation-reads
 
 abbrev Inv-loop : tie.InvT-loop
 Inv-loop entries rows columns p counters₀ pair₀ counters pair =

@@ -1,3 +1,5 @@
+-- `check_table` meets its contract: columns first, and pairs where no column fails.
+-- Assumes nothing.
 use mathlib.Core.Path.{refl, sym, _∙_, ap}
 use Rattle.counting.specs.declared.verdict.TableFinding.{TableFinding}
 use Rattle.counting.specs.declared.verdict.TableVerdict.{TableVerdict}
@@ -7,10 +9,6 @@ use Rattle.counting.proofs.TableVerdicts.{verdict-column, verdict-pairs
 use borrow.Author.Needs.{needs}
 use Rattle.counting.proofs.table.check_table.Statement.{statement}
 use Rattle.counting.proofs.table.check_table.Tie as tie
-use Rattle.counting.proofs.table.check_table.Reads as reads
-use Rattle.counting.proofs.table.check_table.Lts as lts
-use Rattle.counting.proofs.table.uneven_column.Reads as uneven-column-reads
-use Rattle.counting.proofs.table.uneven_pair.Reads as uneven-pair-reads
 
 slice-aggregate-uneven-column : tie.Need-slice-aggregate-uneven-column
 slice-aggregate-uneven-column c = search needs

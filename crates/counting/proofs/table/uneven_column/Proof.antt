@@ -1,11 +1,13 @@
+-- `uneven_column` meets its contract: the columns before the one in hand are even, and the counters are zero between two columns.
+-- Assumes nothing.
 use mathlib.Core.Path.{_≡_, refl, sym, _∙_, ap}
 use mathlib.Core.Option.{none, Option·map}
-use Prim.Native.Nat.{ℕ, _+_, _-_, _*_, _≤_, _<_}
+use Prim.Native.Nat.{ℕ, _-_, _≤_, _<_}
 use native.Mathlib.Nat.{not-suc-le-zero, lt-of-lt-of-le}
 use native.Mathlib.Omega.{arith}
 use borrow.Author.Needs.{needs}
 use borrow.Author.Count.{below-more}
-use lib.ListN.{length, getD}
+use lib.ListN.{length}
 use Rattle.finite.proofs.Firsts.{first-none, first-at}
 use Rattle.counting.specs.Table.{tableOf}
 use Rattle.counting.specs.Tally.{Cleared}
@@ -14,9 +16,6 @@ use Rattle.counting.proofs.Deviations.{at-some, nowhere-none, fails-not
 use Rattle.counting.proofs.TableKeys.{column-keyed, column-deviation}
 use Rattle.counting.proofs.table.uneven_column.Statement.{statement}
 use Rattle.counting.proofs.table.uneven_column.Tie as tie
-use Rattle.counting.proofs.table.uneven_column.Reads as reads
-use Rattle.counting.proofs.table.uneven_column.Lts as lts
-use Rattle.counting.proofs.tally.levels_deviation.Reads as levels-deviation-reads
 
 abbrev Inv-loop : tie.InvT-loop
 Inv-loop cells levels runs counters₀ column₀ counters column =

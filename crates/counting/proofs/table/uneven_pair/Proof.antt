@@ -15,11 +15,6 @@ use Rattle.counting.proofs.PairOrder.{Searched, searched-start, searche
 use Rattle.counting.proofs.TableKeys.{pair-keyed, pair-deviation}
 use Rattle.counting.proofs.table.uneven_pair.Statement.{statement}
 use Rattle.counting.proofs.table.uneven_pair.Tie as tie
-use Rattle.counting.proofs.table.uneven_pair.Reads as reads
-use Rattle.counting.proofs.table.uneven_pair.Lts as lts
-use Rattle.counting.proofs.pairs.IndexPair.next.Reads as next-reads
-use Rattle.counting.proofs.pairs.IndexPair.start.Reads as start-reads
-use Rattle.counting.proofs.tally.levels_deviation.Reads as levels-deviation-reads
 
 abbrev Inv-loop : tie.InvT-loop
 Inv-loop cells levels runs counters₀ pair₀ counters pair =

@@ -1,3 +1,5 @@
+-- `first_deviation` meets its contract: the counters that were read were even and are zero now, the others are as they were.
+-- Assumes nothing.
 use mathlib.Core.Path.{_≡_, sym, _∙_, ap}
 use mathlib.Core.Logic.{by-cases}
 use Prim.Native.Nat.{ℕ, _-_, _*_, _≤_, _<_}
@@ -9,14 +11,12 @@ use borrow.Author.Count.{below-more}
 use lib.ListN.{length, getD}
 use lib.Seq.{getD-set-other}
 use Rattle.counting.specs.Verdict.{asDeviation}
-use Rattle.counting.specs.declared.verdict.Deviation.the-variants.{At, Nowhere}
+use Rattle.counting.specs.declared.verdict.Deviation.the-variants.{At}
 use Rattle.counting.proofs.Deviations.{deviation-none, deviation-at, at-not-nowhere}
 use Rattle.counting.proofs.Tallies.{reset}
 use Rattle.counting.proofs.Fits.{product-fits}
 use Rattle.counting.proofs.tally.first_deviation.Statement.{statement}
 use Rattle.counting.proofs.tally.first_deviation.Tie as tie
-use Rattle.counting.proofs.tally.first_deviation.Reads as reads
-use Rattle.counting.proofs.tally.first_deviation.Lts as lts
 
 abbrev Inv-loop : tie.InvT-loop
 Inv-loop counters₀ n runs value₀ counters value =

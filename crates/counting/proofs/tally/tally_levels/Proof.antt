@@ -1,6 +1,8 @@
-use mathlib.Core.Path.{_≡_, refl, sym, _∙_, ap}
+-- `tally_levels` meets its contract: after each run the counters hold the counts of the keys so far.
+-- Assumes nothing.
+use mathlib.Core.Path.{_≡_, refl, sym}
 use denote.Ref.{now}
-use Prim.Native.Nat.{ℕ, _+_, _-_, _*_, _≤_, _<_}
+use Prim.Native.Nat.{_+_, _-_, _*_, _≤_, _<_}
 use native.Mathlib.Nat.{zero-mul, le-trans, le-antisymm}
 use native.Mathlib.Omega.{arith}
 use borrow.Author.Needs.{needs}
@@ -10,8 +12,6 @@ use Rattle.counting.proofs.Tallies.{tallied-none, tallied-more, counter
 use Rattle.counting.proofs.Fits.{place-below, run-more, run-end}
 use Rattle.counting.proofs.tally.tally_levels.Statement.{statement}
 use Rattle.counting.proofs.tally.tally_levels.Tie as tie
-use Rattle.counting.proofs.tally.tally_levels.Reads as reads
-use Rattle.counting.proofs.tally.tally_levels.Lts as lts
 
 abbrev Inv-loop : tie.InvT-loop
 Inv-loop cells runs columns first weight second counters₀ start₀ run₀ counters start run =
