@@ -1,0 +1,19 @@
+-- `papers::table_4` meets its contract: antt computes the tests of each table. The other needs are the lengths of what is lent.
+-- Assumes nothing.
+use mathlib.Core.Path.{refl}
+use borrow.Author.Needs.{needs}
+use Rattle.papers.proofs.Written.{written-table}
+use Rattle.papers.proofs.table_4.Statement.{statement}
+use Rattle.papers.proofs.table_4.Tie as tie
+
+pub table-4-spec : {M : Type 1} → statement M
+table-4-spec =
+    tie.close
+    (tie.spec
+    (λ c. refl) (λ c. refl) (λ c. refl) (λ c κs. written-table _ _ _ tt)
+    (λ c. refl) (λ c. refl) (λ c. refl) (λ c κs. written-table _ _ _ tt)
+    (λ c. refl) (λ c. refl) (λ c. refl) (λ c κs. written-table _ _ _ tt)
+    (λ c. refl) (λ c. refl) (λ c. refl) (λ c κs. written-table _ _ _ tt)
+    (λ c. refl) (λ c. refl) (λ c. refl) (λ c κs. written-table _ _ _ tt)
+    (λ c. refl) (λ c. refl) (λ c. refl) (λ c κs. written-table _ _ _ tt)
+    (λ c. search needs))
