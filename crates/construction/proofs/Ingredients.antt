@@ -23,9 +23,9 @@ use Rattle.galois.proofs.Tests.{otherwise}
 use Rattle.counting.specs.Table.{Table, columns, tableOf, InRange}
 use Rattle.counting.specs.Matrix.{Matrix, matrixOf, EntriesInRange as MatrixInRange}
 use Rattle.counting.specs.Generator.{Generator, factors, generatorOf, width, ElementsInRange}
-use Rattle.counting.specs.House.{house101, house102, house103, house104, houseOf, houseTable}
+use Rattle.house.specs.House.{house101, house102, house103, house104, houseOf, houseTable}
 use Rattle.counting.proofs.Fits.{place-below}
-use Rattle.counting.proofs.HouseTables.{house-passes, house-even, house-number}
+use Rattle.house.proofs.Passing.{house-passes, house-even, house-number}
 use Rattle.order.specs.Order.{Ingredient, table, matrix, generator, Order, total, All, Between, FieldSize, Width, IngredientLimits, WithinLimits}
 use Rattle.order.specs.Range.{entriesOf, bound, EntriesInRange}
 use Rattle.construction.specs.Lists.{allOf}

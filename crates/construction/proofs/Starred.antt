@@ -13,7 +13,7 @@ use Rattle.counting.specs.Matrix.{matrixOf, difference, rowDifference, differen
 use Rattle.counting.specs.Generator.{generatorOf, width, from, factorColumns, columnsOf, combination}
 use Rattle.counting.specs.Verdict.{deviation, columnDeviation, pairDeviation, columnsFault, pairsFault, tableVerdict, differenceDeviation, matrixVerdict}
 use Rattle.counting.specs.GeneratorVerdict.{combinesToZero, dependence, generatorFault, generatorVerdict}
-use Rattle.counting.specs.House.{houseTable, houseOf, house101}
+use Rattle.house.specs.House.{houseTable, houseOf, house101}
 use Rattle.order.specs.Reader.{allowed, numbers}
 use Rattle.order.specs.Grammar.{tableBody, matrixBody, generatorBody, readIngredient, readNaming, readSum, readMerge, readSplit, readStep, readParts, readOrder}
 use Rattle.order.specs.Range.{ingredientRange, rangeOf}

@@ -7,7 +7,7 @@ use Rattle.finite.specs.First.{_orElse_}
 use Rattle.counting.specs.Table.{Table, tableOf}
 use Rattle.counting.specs.Matrix.{Matrix, matrixOf}
 use Rattle.counting.specs.Generator.{Generator, generatorOf}
-use Rattle.counting.specs.House.{houseTable}
+use Rattle.house.specs.House.{houseTable}
 use Rattle.order.specs.Order.{Ingredient, table, matrix, generator, Order}
 
 -- an ingredient as what its kind says, and as nothing else

@@ -10,4 +10,3 @@ pub mod MatrixVerdicts
 pub mod Combinings
 pub mod Factors
 pub mod GeneratorVerdicts
-pub mod HouseTables

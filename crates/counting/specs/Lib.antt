@@ -9,4 +9,3 @@ pub mod Combining
 pub mod Tally
 pub mod Checkable
 pub mod Failures
-pub mod House

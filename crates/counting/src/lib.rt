@@ -1,6 +1,5 @@
 // Verdicts on the ingredients of an order: a table, a difference matrix, a generator.
 pub mod generator;
-pub mod house;
 pub mod matrix;
 mod pairs;
 pub mod table;

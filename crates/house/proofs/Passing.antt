@@ -11,11 +11,11 @@ use lib.Dec.{T, eqb, ltb, leb, ltb→lt, leb→le}
 use Rattle.finite.specs.Sum.{sum, count, every}
 use Rattle.finite.specs.First.{first, firstAfter, firstPair}
 use Rattle.finite.proofs.Tests.{all-every, T-and}
 use Rattle.counting.specs.Table.{Table, columns, levelsOf, InRange, Even, shows, times}
 use Rattle.counting.specs.Verdict.{deviation, columnDeviation, columnsFault, pairDeviation, pairsFault, tableVerdict}
-use Rattle.counting.specs.House.{house101, house102, house103, house104, HouseNumber, houseOf, houseTable}
+use Rattle.house.specs.House.{house101, house102, house103, house104, HouseNumber, houseOf, houseTable}
 use Rattle.counting.specs.declared.verdict.TableFinding.the-variants.{Passes}
 use Rattle.counting.proofs.TableVerdicts.{table-passes}
 
 -- every entry is in range, as a test
 inRange : Table → Bool

@@ -1,8 +1,8 @@
 // The four house tables: their runs and level counts as constants, looked up by the table's number, 101 to 104.
 ghost use mathlib.Core.Path.{_≡_};
 ghost use Prim.Native.Nat.{_≤_, _<_};
 ghost use Rattle.counting.specs.Table.{columns, levelsOf};
-ghost use Rattle.counting.specs.House.{HouseNumber, houseOf};
+ghost use Rattle.house.specs.House.{HouseNumber, houseOf};
 
 // L4(2³)
 const RUNS_101: [[u8; 3]; 4] = [[0, 0, 0], [0, 1, 1], [1, 0, 1], [1, 1, 0]];

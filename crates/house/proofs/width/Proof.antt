@@ -1,9 +1,9 @@
--- `house::runs` meets its contract: each arm's constant is that of the table with the arm's number.
+-- `house::width` meets its contract: each arm's constant is that of the table with the arm's number.
 -- Assumes nothing.
-use Rattle.counting.specs.House.{houseOf, house101, house102, house103, house104}
-use Rattle.counting.proofs.HouseTables.{house-at, last-house}
-use Rattle.counting.proofs.house.runs.Statement.{statement}
-use Rattle.counting.proofs.house.runs.Tie as tie
+use Rattle.house.specs.House.{houseOf, house101, house102, house103, house104}
+use Rattle.house.proofs.Passing.{house-at, last-house}
+use Rattle.house.proofs.width.Statement.{statement}
+use Rattle.house.proofs.width.Tie as tie
 
 returns : tie.Need-returns
 unfolding houseOf house101 house102 house103 house104
@@ -21,5 +21,5 @@ returns-4 : tie.Need-returns-4
 unfolding houseOf house101 house102 house103 house104
 returns-4 c = rw (house-at _ 104 (last-house _ (c .before .pre) (c .match .rest)))
 
-pub runs-spec : {M : Type 1} → statement M
-runs-spec = tie.close (tie.spec returns returns-2 returns-3 returns-4)
+pub width-spec : {M : Type 1} → statement M
+width-spec = tie.close (tie.spec returns returns-2 returns-3 returns-4)

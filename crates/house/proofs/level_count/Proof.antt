@@ -1,9 +1,9 @@
 -- `house::level_count` meets its contract: each arm's constant is that of the table with the arm's number.
 -- Assumes nothing.
-use Rattle.counting.specs.House.{houseOf, house101, house102, house103, house104}
-use Rattle.counting.proofs.HouseTables.{house-at, last-house}
-use Rattle.counting.proofs.house.level_count.Statement.{statement}
-use Rattle.counting.proofs.house.level_count.Tie as tie
+use Rattle.house.specs.House.{houseOf, house101, house102, house103, house104}
+use Rattle.house.proofs.Passing.{house-at, last-house}
+use Rattle.house.proofs.level_count.Statement.{statement}
+use Rattle.house.proofs.level_count.Tie as tie
 
 array-read-result : tie.Need-array-read-result
 unfolding houseOf house101 house102 house103 house104
