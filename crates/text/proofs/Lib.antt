@@ -1,0 +1,11 @@
+pub mod Cases
+pub mod Cuts
+pub mod Steps
+pub mod Scanning
+pub mod Digits
+pub mod Puts
+pub mod Rows
+pub mod Bounds
+pub mod Printing
+pub mod RoundTrip
+pub mod Examples

@@ -1,0 +1,65 @@
+-- What is printed: document 01, "Printed runs". Text is the list of its bytes.
+use mathlib.Core.Path.{_≡_}
+use mathlib.Core.Bool.{cond}
+use mathlib.Core.List.{List, [], _∷_, _++_}
+use Prim.Native.Nat.{ℕ, zero, suc, _+_, _*_, _/_, _%_, _≤_}
+use lib.Dec.{ltb}
+use lib.ListN.{length, take, drop}
+
+-- The decimal digits of n, of which there are at most so many after the first.
+abbrev pub digitsWithin : ℕ → ℕ → List ℕ
+digitsWithin zero n = (48 + n) ∷ []
+digitsWithin (suc most) n =
+    let more = digitsWithin most (n / 10) ++ ((48 + n % 10) ∷ []) in
+    cond (ltb n 10) ((48 + n) ∷ []) more
+
+-- The decimal digits of n, with no leading zero; 0 is "0". Digit d is the byte 48 + d.
+unfoldable pub digits : ℕ → List ℕ
+digits n = digitsWithin n n
+
+-- Each number with a space before it.
+abbrev pub spaced : List ℕ → List ℕ
+spaced [] = []
+spaced (n ∷ ns) = (32 ∷ digits n) ++ spaced ns
+
+-- Numbers with single spaces between.
+abbrev pub row : List ℕ → List ℕ
+row [] = []
+row (n ∷ ns) = digits n ++ spaced ns
+
+-- "Each line closed by a line feed", byte 10.
+unfoldable pub line : List ℕ → List ℕ
+line ns = row ns ++ (10 ∷ [])
+
+-- The bytes of "refused".
+abbrev pub refusedWord : List ℕ
+refusedWord = 114 ∷ 101 ∷ 102 ∷ 117 ∷ 115 ∷ 101 ∷ 100 ∷ []
+
+-- "A refusal prints one line: "refused", the number and the six details."
+unfoldable pub refusedLine : ℕ → List ℕ → List ℕ
+refusedLine number details = refusedWord ++ spaced (number ∷ details) ++ (10 ∷ [])
+
+-- So many runs, one to a line, whose cells of m columns stand run by run.
+abbrev pub runLines : ℕ → ℕ → List ℕ → List ℕ
+runLines zero m cells = []
+runLines (suc runs) m cells = line (take m cells) ++ runLines runs m (drop m cells)
+
+-- A filled order "prints "N m", the level counts, then the runs". There are as many level counts as columns.
+unfoldable pub printed : ℕ → List ℕ → List ℕ → List ℕ
+printed runs levels cells = line (runs ∷ length levels ∷ []) ++ line levels ++ runLines runs (length levels) cells
+
+-- f of 0, 1, .., n − 1.
+abbrev pub upTo : ℕ → (ℕ → List ℕ) → List (List ℕ)
+upTo zero f = []
+upTo (suc n) f = f 0 ∷ upTo n (λ i. f (i + 1))
+
+-- The same lines, one at a time, as a program puts them: run number i has the cells from i × m on.
+unfoldable pub printedLines : ℕ → List ℕ → List ℕ → List (List ℕ)
+printedLines runs levels cells =
+    line (runs ∷ length levels ∷ []) ∷ line levels ∷ upTo runs (λ i. line (take (length levels) (drop (i * length levels) cells)))
+
+-- A buffer before and after some bytes were put into it from a place on: all else stays, and the end is the place after them.
+pub record Put (before : List ℕ) (at : ℕ) (bytes : List ℕ) (after : List ℕ) (end : ℕ) : Type 0 where
+  pub ends : end ≡ at + length bytes
+  pub fits : end ≤ length before
+  pub holds : after ≡ take at before ++ bytes ++ drop end before
