@@ -106,8 +106,8 @@ module _ (t s : ℕ) (widths entries : List ℕ) (limits : IngredientLimits (gen
   unfolding LevelsAtMost fieldStep generatorOf
   generator-levels c h =
       let G = generatorOf entries t s widths in
-      let below : c < factors G = rw (field-columns (fieldSum s) (fieldProduct s) G) at h in
-      rw (field-levels (fieldSum s) (fieldProduct s) G below) (all-getD (Width s) widths (limits .3) c 0 below .1)
+      let below : c < factors G = rw (field-columns _ _ G) at h in
+      rw (field-levels _ _ G below) (all-getD (Width s) widths (limits .3) c 0 below .1)
 
 -- what questions 2 to 4 say of an ingredient
 record Known (g : Ingredient) : Type 0 where

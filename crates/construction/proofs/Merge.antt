@@ -116,7 +116,7 @@ module _ (p : ℕ) (cs : List ℕ) (S : Table) (pos : 0 < p) (fits : MergeFits p
 
   merged-below : (r : ℕ) → r < S .runs → mergedLevel p cs S r < levelColumn (p * p) .runs
   unfolding mergedLevel levelColumn
-  merged-below r h = rw (mul-comm p (S .cell r (memberAt cs 1))) (digits-lt (member-below 0 r (omega arith) h) (member-below 1 r (omega arith) h))
+  merged-below r h = rw (mul-comm p _) (digits-lt (member-below 0 r (omega arith) h) (member-below 1 r (omega arith) h))
 
   module _ (plane : Plane p) (g : ℕ) (even : Even g S) (ls : List Setting) (v : ℕ)
       (fewer : length ls < g) (settings : Settings S ls) (apart : (c : ℕ) → List·Memᴰ c cs → Apart c ls) (below : v < p * p) where
