@@ -3,7 +3,6 @@ pub mod Cuts
 pub mod Steps
 pub mod Scanning
 pub mod Digits
-pub mod Puts
 pub mod Rows
 pub mod Bounds
 pub mod Printing

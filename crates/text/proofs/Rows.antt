@@ -7,8 +7,9 @@ use native.Mathlib.Numerals.{add-one}
 use native.Mathlib.Omega.{arith}
 use lib.ListN.{length, getD, take, drop, length-drop}
 use lib.Seq.{take-suc, take-all}
-use Rattle.text.specs.Lines.{digits, spaced, line, refusedWord, refusedLine, Put}
-use Rattle.text.proofs.Puts.{put-none, put-join, put-length}
+use Rattle.buffers.specs.Put.{Put}
+use Rattle.text.specs.Lines.{digits, spaced, line, refusedWord, refusedLine}
+use Rattle.buffers.proofs.Puts.{put-none, put-join, put-length}
 
 spaced-snoc : (ns : List ℕ) (n : ℕ) → spaced (ns ++ (n ∷ [])) ≡ spaced ns ++ (32 ∷ digits n)
 spaced-snoc [] n = append-nil (32 ∷ digits n)

@@ -57,9 +57,3 @@ upTo (suc n) f = f 0 ∷ upTo n (λ i. f (i + 1))
 unfoldable pub printedLines : ℕ → List ℕ → List ℕ → List (List ℕ)
 printedLines runs levels cells =
     line (runs ∷ length levels ∷ []) ∷ line levels ∷ upTo runs (λ i. line (take (length levels) (drop (i * length levels) cells)))
-
--- A buffer before and after some bytes were put into it from a place on: all else stays, and the end is the place after them.
-pub record Put (before : List ℕ) (at : ℕ) (bytes : List ℕ) (after : List ℕ) (end : ℕ) : Type 0 where
-  pub ends : end ≡ at + length bytes
-  pub fits : end ≤ length before
-  pub holds : after ≡ take at before ++ bytes ++ drop end before

@@ -2,30 +2,10 @@
 ghost use Prim.Native.Nat.{_+_, _*_, _≤_, _<_};
 ghost use mathlib.Core.List.{[], _∷_, _++_};
 ghost use lib.ListN.{length};
-ghost use Rattle.text.specs.Lines.{digits, spaced, line, refusedLine, Put};
-
-// One byte.
-fn put_byte(buf: &mut [u8], at: usize, byte: u8) -> usize
-    requires { ⌜ at < length (now buf) ⌝ }
-    ensures { λ r. ⌜ Put (now (buf .entry)) at (byte ∷ []) (now (buf .exit)) r ⌝ }
-{
-    buf[at] = byte;
-    at + 1
-}
-
-// Some bytes.
-fn put_bytes(buf: &mut [u8], at: usize, bytes: &[u8]) -> usize
-    requires { ⌜ at + length (now bytes) ≤ length (now buf) ⌝ }
-    ensures { λ r. ⌜ Put (now (buf .entry)) at (now (bytes .entry)) (now (buf .exit)) r ⌝ }
-{
-    let mut place = at;
-    let mut i = 0;
-    while i < bytes.len() {
-        place = put_byte(buf, place, bytes[i]);
-        i += 1;
-    }
-    place
-}
+ghost use Rattle.buffers.specs.Put.{Put};
+ghost use Rattle.text.specs.Lines.{digits, spaced, line, refusedLine};
+use buffers::put_byte;
+use buffers::put_bytes;
 
 // A number in decimal: the digits before the last are those of a tenth of it.
 pub fn put_number(buf: &mut [u8], at: usize, value: usize) -> usize

@@ -5,11 +5,11 @@ use native.Mathlib.Omega.{arith}
 use borrow.Fn.Kinds.{In}
 use borrow.Fn.PlainCycle.{Measures, is, falls, and}
 use Rattle.text.proofs.Digits.{digits-one, digits-more, length-one, length-more}
-use Rattle.text.proofs.Puts.{put-join}
+use Rattle.buffers.proofs.Puts.{put-join}
 use Rattle.text.proofs.lines.put_number.Reads as reads
 use Rattle.text.proofs.lines.put_number.Kinds as kinds
 use Rattle.text.proofs.lines.+put_number.Lts-put_number as lts
-use Rattle.text.proofs.lines.put_byte.Reads as put-byte-reads
+use Rattle.buffers.proofs.put_byte.Reads as put-byte-reads
 use Rattle.text.proofs.lines.+put_number.{statement}
 use Rattle.text.proofs.lines.+put_number.Tie.{close}
 

@@ -6,7 +6,7 @@ use borrow.Author.Needs.{needs}
 use lib.ListN.{length, getD}
 use Rattle.text.specs.Lines.{digits}
 use Rattle.text.proofs.Digits.{digits-byte}
-use Rattle.text.proofs.Puts.{put-join, put-length}
+use Rattle.buffers.proofs.Puts.{put-join, put-length}
 use Rattle.text.proofs.Rows.{First, first-none, first-all, first-end, first-room, first-next}
 use Rattle.text.proofs.lines.end_with_cells.Statement.{statement}
 use Rattle.text.proofs.lines.end_with_cells.Tie as tie

@@ -2,7 +2,7 @@
 use borrow.Author.Needs.{needs}
 use native.Mathlib.Omega.{arith}
 use Rattle.text.proofs.Digits.{digits-word}
-use Rattle.text.proofs.Puts.{put-join}
+use Rattle.buffers.proofs.Puts.{put-join}
 use Rattle.text.proofs.Rows.{line-pair}
 use Rattle.text.proofs.lines.put_pair.Statement.{statement}
 use Rattle.text.proofs.lines.put_pair.Tie as tie

@@ -4,7 +4,7 @@ use mathlib.Core.Path.{_≡_}
 use lib.ListN.{length}
 use native.Mathlib.Omega.{arith}
 use Rattle.text.proofs.Digits.{digits-word}
-use Rattle.text.proofs.Puts.{put-join}
+use Rattle.buffers.proofs.Puts.{put-join}
 use Rattle.text.proofs.Rows.{refused-parts}
 use Rattle.text.proofs.lines.put_refusal.Statement.{statement}
 use Rattle.text.proofs.lines.put_refusal.Tie as tie

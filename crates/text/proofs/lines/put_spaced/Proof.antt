@@ -1,6 +1,6 @@
 -- `text::lines::put_spaced` meets its contract: the space and then the digits.
 use borrow.Author.Needs.{needs}
-use Rattle.text.proofs.Puts.{put-join}
+use Rattle.buffers.proofs.Puts.{put-join}
 use Rattle.text.proofs.lines.put_spaced.Statement.{statement}
 use Rattle.text.proofs.lines.put_spaced.Tie as tie
 

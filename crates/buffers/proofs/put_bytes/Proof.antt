@@ -1,13 +1,13 @@
--- `text::lines::put_bytes` meets its contract. The invariant: the first `i` bytes are put, up to `place`.
+-- `buffers::put_bytes` meets its contract. The invariant: the first `i` bytes are put, up to `place`.
 use Prim.Native.Nat.{_≤_, _-_}
 use native.Mathlib.Omega.{arith}
 use borrow.Author.Needs.{needs}
 use lib.ListN.{length, take}
 use lib.Seq.{take-all, length-take-le}
-use Rattle.text.specs.Lines.{Put}
-use Rattle.text.proofs.Puts.{put-none, put-next, put-length}
-use Rattle.text.proofs.lines.put_bytes.Statement.{statement}
-use Rattle.text.proofs.lines.put_bytes.Tie as tie
+use Rattle.buffers.specs.Put.{Put}
+use Rattle.buffers.proofs.Puts.{put-none, put-next, put-length}
+use Rattle.buffers.proofs.put_bytes.Statement.{statement}
+use Rattle.buffers.proofs.put_bytes.Tie as tie
 
 abbrev Inv-loop : tie.InvT-loop
 Inv-loop buf₀ at bytes place₀ i₀ buf place i = (i ≤ length bytes) × Put buf₀ at (take i bytes) buf place

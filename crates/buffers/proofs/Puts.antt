@@ -5,9 +5,9 @@ use Prim.Native.Nat.{ℕ, suc, _+_, _≤_, _<_}
 use native.Mathlib.Nat.{add-zero}
 use native.Mathlib.Numerals.{add-one}
 use native.Mathlib.Omega.{arith}
-use lib.ListN.{length, getD, take, drop, set, length-append, length-take, length-drop, take-append-drop}
-use lib.Seq.{length-take-le, take-suc, take-at, drop-append-add, drop-drop, set-split, append-snoc}
-use Rattle.text.specs.Lines.{Put}
+use lib.ListN.{length, getD, take, drop, set, replicate, replicate-append-replicate, length-append, length-take, length-drop, take-append-drop}
+use lib.Seq.{take-all, length-take-le, take-suc, take-at, drop-append-add, drop-drop, set-split, append-snoc}
+use Rattle.buffers.specs.Put.{Put}
 
 pub put-none : (before : List ℕ) (at : ℕ) → at ≤ length before → Put before at [] before at
 put-none before at h =
@@ -64,3 +64,13 @@ put-part {j = j} p = sym (length-take-le j _ (omega (arith, p .fits, put-length 
 
 pub put-front : {a xs b : List ℕ} {j : ℕ} → Put a 0 xs b j → take j b ≡ xs
 put-front p = kept-front p
+
+-- One more zero.
+pub put-zero : {a b c : List ℕ} {i j k : ℕ} (n : ℕ) → Put a i (replicate n 0) b j → Put b j (0 ∷ []) c k → Put a i (replicate (n + 1) 0) c k
+put-zero n p q = rw (replicate-append-replicate {A = ℕ} n 1 0) at (put-join p q)
+
+-- Zeros to the end of the buffer are all of it.
+pub put-whole : {a b : List ℕ} {n : ℕ} → Put a 0 (replicate n 0) b n → length b ≤ n → b ≡ replicate (length a) 0
+put-whole {a} {b} {n} p all =
+    let many : n ≡ length a = omega (arith, p .fits, put-length p) in
+    sym (take-all n b all) ∙ put-front p ∙ ap (λ (k : ℕ). replicate k 0) many

@@ -1,8 +1,8 @@
--- `text::lines::put_byte` meets its contract: one store is one byte put.
+-- `buffers::put_byte` meets its contract: one store is one byte put.
 use borrow.Author.Needs.{needs}
-use Rattle.text.proofs.Puts.{put-byte}
-use Rattle.text.proofs.lines.put_byte.Statement.{statement}
-use Rattle.text.proofs.lines.put_byte.Tie as tie
+use Rattle.buffers.proofs.Puts.{put-byte}
+use Rattle.buffers.proofs.put_byte.Statement.{statement}
+use Rattle.buffers.proofs.put_byte.Tie as tie
 
 slice-write-buf : tie.Need-slice-write-buf
 slice-write-buf c = search needs
