@@ -1,2 +1,0 @@
-// The construction of a run table from an order, in five kinds of steps.
-pub mod answer;

@@ -1,0 +1,19 @@
+-- The numbers of a refusal: document 01, "The questions, in turn".
+use mathlib.Core.List.{List, [], _∷_}
+use Prim.Native.Nat.{ℕ}
+use Rattle.sheets.specs.declared.answer.Refusal.{Refusal}
+use Rattle.sheets.specs.declared.answer.Refusal.the-variants.{ShortBuffers, Unreadable, EntryOutOfRange, UnevenLevel, UnevenPair, UnevenDifference, Dependent, StepNotAllowed, PartsDoNotFit, NotTheSum, TooLarge}
+
+-- 01's number of a refusal and its six details, unused ones 0
+unfoldable pub numbered : Refusal → List ℕ
+numbered ShortBuffers = 1 ∷ 0 ∷ 0 ∷ 0 ∷ 0 ∷ 0 ∷ 0 ∷ []
+numbered (Unreadable place) = 2 ∷ place ∷ 0 ∷ 0 ∷ 0 ∷ 0 ∷ 0 ∷ []
+numbered (EntryOutOfRange place) = 3 ∷ place ∷ 0 ∷ 0 ∷ 0 ∷ 0 ∷ 0 ∷ []
+numbered (UnevenLevel i c x times) = 4 ∷ i ∷ c ∷ x ∷ times ∷ 0 ∷ 0 ∷ []
+numbered (UnevenPair i c d x y times) = 5 ∷ i ∷ c ∷ d ∷ x ∷ y ∷ times ∷ []
+numbered (UnevenDifference i c d x times) = 6 ∷ i ∷ c ∷ d ∷ x ∷ times ∷ 0 ∷ []
+numbered (Dependent i c d coefficients) = 7 ∷ i ∷ c ∷ d ∷ coefficients ∷ 0 ∷ 0 ∷ []
+numbered (StepNotAllowed step) = 8 ∷ step ∷ 0 ∷ 0 ∷ 0 ∷ 0 ∷ 0 ∷ []
+numbered (PartsDoNotFit step) = 9 ∷ step ∷ 0 ∷ 0 ∷ 0 ∷ 0 ∷ 0 ∷ []
+numbered (NotTheSum step run member) = 10 ∷ step ∷ run ∷ member ∷ 0 ∷ 0 ∷ 0 ∷ []
+numbered (TooLarge step runs columns) = 11 ∷ step ∷ runs ∷ columns ∷ 0 ∷ 0 ∷ 0 ∷ []
