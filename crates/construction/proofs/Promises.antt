@@ -1,0 +1,274 @@
+-- The whole promise of `plan` follows from the answer and the bytes: filled exactly where the conditions hold, and then even.
+-- Assumes nothing.
+use mathlib.Core.Path.{_≡_, refl, sym, _∙_, ap, ap₂, subst}
+use mathlib.Core.Logic.{_≢_, _↔_}
+use mathlib.Core.Bool.{Bool, true, false, cond, _&&_, and-true}
+use mathlib.Core.List.{List, [], _∷_}
+use Prim.Native.Nat.{ℕ, _+_, _*_, _≤_, _<_}
+use native.Mathlib.Nat.{mul-one, le-trans}
+use native.Mathlib.Omega.{arith}
+use lib.Dec.{T, eqb, leb, leb→le, le→leb, lit≤}
+use lib.ListN.{length, getD, length-replicate}
+use Rattle.finite.specs.Sum.{count}
+use Rattle.finite.proofs.Counts.{count-ext}
+use Rattle.finite.proofs.Tests.{T-and}
+use Rattle.counting.specs.Table.{Table, columns, levelsOf, Setting, shows, times, combinations, Apart, Settings, InRange, Even}
+use Rattle.sheets.specs.Sheet.{Sound, SmallEnough}
+use Rattle.sheets.specs.Steps.{Outcome, filled, refused}
+use Rattle.sheets.specs.Outcome.{outcome}
+use Rattle.sheets.specs.Fillable.{Fillable, orderedTable}
+use Rattle.sheets.specs.declared.answer.Refusal.{Refusal}
+use Rattle.sheets.specs.declared.answer.Refusal.the-variants.{ShortBuffers}
+use Rattle.sheets.specs.declared.answer.Answer.{Answer}
+use Rattle.sheets.specs.declared.answer.Answer.the-variants.{Filled, Refused}
+use Rattle.sheets.proofs.Carried.{refused-not-filled}
+use Rattle.sheets.proofs.Filled.{filled-fillable, fillable-filled, filled-sound}
+use Rattle.construction.specs.Bytes.{runsOf, zeros, padded, Holds, Zeros, LongEnough}
+use Rattle.construction.specs.Carry.{Left}
+use Rattle.construction.specs.Promise.{suffice, planned, answerTo, tableBytes, levelBytes, EvenBytes, Promise}
+use Rattle.construction.proofs.Bytes.{runs-length, runs-cell}
+use Rattle.construction.proofs.Sheets.{padded-length, padded-at, cells-few}
+
+-- ---- a sound table in bytes is even there
+
+module _ (S : Table) (table levels : List ℕ) (holds : Holds S table levels) where
+  byte-level : (c : ℕ) → getD levels c 0 ≡ levelsOf S c
+  byte-level c = ap (λ xs. getD xs c 0) (holds .levels-first) ∙ padded-at (length levels) (S .levels) c
+
+  byte-cell : (r c : ℕ) → r < S .runs → c < columns S → getD table (r * columns S + c) 0 ≡ S .cell r c
+  byte-cell r c h k =
+      ap (λ xs. getD xs (r * columns S + c) 0) (holds .runs-first)
+      ∙ padded-at (length table) (runsOf S) (r * columns S + c)
+      ∙ runs-cell S r c h k
+
+  module _ (sound : Sound S) where
+    one-even : (c x : ℕ) → c < columns S → x < levelsOf S c
+        → levelsOf S c * count (S .runs) (λ r. eqb (getD table (r * columns S + c) 0) x) ≡ S .runs
+    unfolding Even Settings Apart combinations times shows
+    one-even c x h k =
+        ap₂ _*_ (sym (mul-one (levelsOf S c)))
+        (count-ext (S .runs) (λ r l. ap (λ v. eqb v x) (byte-cell r c l h) ∙ sym (and-true (eqb (S .cell r c) x))))
+        ∙ sound .array .even (record { column = c; level = x } ∷ []) (lit≤ tt) (h, k, tt, tt)
+
+    two-even : (c d x y : ℕ) → c < columns S → d < columns S → c ≢ d → x < levelsOf S c → y < levelsOf S d
+        → levelsOf S c * levelsOf S d * count (S .runs) (λ r. eqb (getD table (r * columns S + c) 0) x && eqb (getD table (r * columns S + d) 0) y)
+        ≡ S .runs
+    unfolding Even Settings Apart combinations times shows
+    two-even c d x y h k apart l m =
+        ap₂ _*_ (ap (λ v. levelsOf S c * v) (sym (mul-one (levelsOf S d))))
+        (count-ext (S .runs) (λ r b.
+        ap₂ (λ u v. eqb u x && eqb v y) (byte-cell r c b h) (byte-cell r d b k)
+        ∙ ap (λ v. eqb (S .cell r c) x && v) (sym (and-true (eqb (S .cell r d) y)))))
+        ∙ sound .array .even (record { column = c; level = x } ∷ record { column = d; level = y } ∷ []) (lit≤ tt) (h, l, (apart, tt), (k, m, tt, tt))
+
+    pub even-bytes : EvenBytes (S .runs) (columns S) table levels
+    unfolding InRange
+    even-bytes =
+        record {
+          in-range = λ r c h k. rw (byte-cell r c h k, byte-level c) (sound .array .in-range r c h k);
+          levels-even = λ c x h k. rw (byte-level c) (one-even c x h (rw (← byte-level c) k));
+          pairs-even = λ c d x y h k apart l m.
+              rw (byte-level c, byte-level d) (two-even c d x y h k apart (rw (← byte-level c) l) (rw (← byte-level d) m));
+        }
+
+-- ---- the answer and the bytes decide the rest
+
+pub long-enough : (table levels scratch : List ℕ) → T (suffice (length table) (length levels) (length scratch)) ↔ LongEnough table levels scratch
+long-enough table levels scratch = (
+  λ t.
+      let outer = T-and (leb 65536 (length table) && leb 128 (length levels)) (leb 65536 (length scratch)) .0 t in
+      let inner = T-and (leb 65536 (length table)) (leb 128 (length levels)) .0 (outer .0) in
+      record {
+        table-long = leb→le 65536 (length table) (inner .0);
+        levels-long = leb→le 128 (length levels) (inner .1);
+        scratch-long = leb→le 65536 (length scratch) (outer .1);
+      },
+  λ long.
+      T-and (leb 65536 (length table) && leb 128 (length levels)) (leb 65536 (length scratch)) .1
+      (T-and (leb 65536 (length table)) (leb 128 (length levels)) .1 (le→leb 65536 (length table) (long .table-long), le→leb 128 (length levels) (long .levels-long)), le→leb 65536 (length scratch) (long .scratch-long)),
+)
+
+pub refused-unfilled : {why : Refusal} {N m : ℕ} → Refused why ≡ Filled N m → ⊥
+refused-unfilled e = let none : _≡_ {A = ℕ} 0 1 = cc in absurd (omega arith)
+
+-- a filled answer is the size of a table that the outcome has
+filled-answer : (o : Outcome) {N m : ℕ} → answerTo o ≡ Filled N m → (S : Table) × (o ≡ filled S) × (S .runs ≡ N) × (columns S ≡ m)
+unfolding answerTo
+filled-answer (filled S) e = (S, refl, cc, cc)
+filled-answer (refused why) e = absurd (refused-unfilled e)
+
+-- an outcome that is filled passed question 1
+asked-first : (b : Bool) (o : Outcome) {S : Table} → cond b o (refused ShortBuffers) ≡ filled S → T b × (o ≡ filled S)
+asked-first true o e = (tt, e)
+asked-first false o e = absurd (refused-not-filled e)
+
+-- a table within the limits, padded to buffers that are long enough, lies in them
+padded-holds : (S : Table) (n m : ℕ) (table levels : List ℕ) → SmallEnough S → 65536 ≤ n → 128 ≤ m
+    → table ≡ padded n (runsOf S) → levels ≡ padded m (S .levels) → Holds S table levels
+padded-holds S n m table levels small table-long levels-long table-is levels-are =
+    let room : length (runsOf S) ≤ n = le-trans (rw (runs-length S) (cells-few (small .runs-most) (small .columns-most))) table-long in
+    record {
+      runs-first = table-is ∙ ap (λ k. padded k (runsOf S)) (sym (ap length table-is ∙ padded-length n (runsOf S) room));
+      levels-first =
+          levels-are ∙ ap (λ k. padded k (S .levels)) (sym (ap length levels-are ∙ padded-length m (S .levels) (le-trans (small .columns-most) levels-long)));
+    }
+
+planned-passed : (list table levels scratch : List ℕ) {S : Table} → planned list (length table) (length levels) (length scratch) ≡ filled S
+    → LongEnough table levels scratch × (outcome list ≡ filled S)
+unfolding planned
+planned-passed list table levels scratch e =
+    let (suffices, done) = asked-first (suffice (length table) (length levels) (length scratch)) (outcome list) e in
+    (long-enough table levels scratch .0 suffices, done)
+
+cond-true : {A : Type 0} (b : Bool) (x y : A) → T b → cond b x y ≡ x
+cond-true true x y t = refl
+cond-true false x y t = absurd t
+
+-- where a list is filled, and question 1 passes, so are the buffers
+planned-filled : (list table levels scratch : List ℕ) → LongEnough table levels scratch → (f : Fillable list)
+    → planned list (length table) (length levels) (length scratch) ≡ filled (orderedTable list f)
+unfolding planned
+planned-filled list table levels scratch long f =
+    cond-true (suffice (length table) (length levels) (length scratch)) (outcome list) (refused ShortBuffers) (long-enough table levels scratch .1 long) ∙ fillable-filled list f
+
+-- The record of promises from the answer and the bytes.
+module _ (list table levels scratch : List ℕ) (answer : Answer) (table′ levels′ scratch′ : List ℕ)
+    (answered : answer ≡ answerTo (planned list (length table) (length levels) (length scratch)))
+    (table-is : table′ ≡ tableBytes (length table) (planned list (length table) (length levels) (length scratch)))
+    (levels-are : levels′ ≡ levelBytes (length levels) (planned list (length table) (length levels) (length scratch)))
+    (scratch-is : scratch′ ≡ zeros (length scratch)) where
+  filled-conditions : (N m : ℕ) → answer ≡ Filled N m → LongEnough table levels scratch × Fillable list
+  filled-conditions N m e =
+      let (S, same, runs, many) = filled-answer _ (sym answered ∙ e) in
+      let (long, done) = planned-passed list table levels scratch same in
+      (long, filled-fillable list done .0)
+
+  conditions-ordered : LongEnough table levels scratch → (f : Fillable list) → table′ ≡ padded (length table) (runsOf (orderedTable list f))
+  unfolding tableBytes
+  conditions-ordered long f = table-is ∙ ap (tableBytes (length table)) (planned-filled list table levels scratch long f)
+
+  conditions-filled : LongEnough table levels scratch → (f : Fillable list) → answer ≡ Filled (orderedTable list f .runs) (columns (orderedTable list f))
+  unfolding answerTo
+  conditions-filled long f = answered ∙ ap answerTo (planned-filled list table levels scratch long f)
+
+  filled-even : (N m : ℕ) → answer ≡ Filled N m → EvenBytes N m table′ levels′
+  unfolding tableBytes levelBytes
+  filled-even N m e =
+      let (S, same, runs, many) = filled-answer _ (sym answered ∙ e) in
+      let (long, done) = planned-passed list table levels scratch same in
+      let (sound, small) = filled-sound list done in
+      let holds =
+      padded-holds S (length table) (length levels) table′ levels′ small (long .table-long) (long .levels-long)
+      (table-is ∙ ap (tableBytes (length table)) same)
+      (levels-are ∙ ap (levelBytes (length levels)) same)
+      in
+      subst (λ n. EvenBytes n m table′ levels′) runs (subst (λ k. EvenBytes (S .runs) k table′ levels′) many (even-bytes S table′ levels′ holds sound))
+
+  pub promised : Promise list table levels scratch answer table′ levels′ scratch′
+  promised =
+      record {
+        answered = answered;
+        table-is = table-is;
+        levels-are = levels-are;
+        scratch-is = scratch-is;
+        filled-when = (λ p. filled-conditions (p .0) (p .1) (p .2), λ q. (_, _, conditions-filled (q .0) (q .1)));
+        ordered = conditions-ordered;
+        even = filled-even;
+      }
+
+-- ---- from what the questions left
+
+left-answer : (x : Outcome) {answer : Answer} (table levels : List ℕ) → Left x answer table levels → answer ≡ answerTo x
+unfolding Left answerTo
+left-answer (filled S) table levels left = left .0
+left-answer (refused why) table levels left = left
+
+left-filled : (x : Outcome) (n m : ℕ) (table levels : List ℕ) → Left x (Filled n m) table levels
+    → (table ≡ tableBytes (length table) x) × (levels ≡ levelBytes (length levels) x)
+unfolding Left tableBytes levelBytes
+left-filled (filled S) n m table levels left = (left .1 .runs-first, left .1 .levels-first)
+left-filled (refused why) n m table levels left = absurd (refused-unfilled (sym left))
+
+left-refused : (x : Outcome) (why : Refusal) (table levels : List ℕ) → Left x (Refused why) table levels
+    → (n : ℕ) → (zeros n ≡ tableBytes n x) × (zeros n ≡ levelBytes n x)
+unfolding Left tableBytes levelBytes
+left-refused (filled S) why table levels left n = absurd (refused-unfilled (left .0))
+left-refused (refused other) why table levels left n = (refl, refl)
+
+-- question 1 decides whether the others are asked
+planned-short : (list : List ℕ) (n m k : ℕ) → suffice n m k ≡ false → planned list n m k ≡ refused ShortBuffers
+unfolding planned
+planned-short list n m k short = ap (λ b. cond b (outcome list) (refused ShortBuffers)) short
+
+planned-long : (list : List ℕ) (n m k : ℕ) → suffice n m k ≡ true → planned list n m k ≡ outcome list
+unfolding planned
+planned-long list n m k long = ap (λ b. cond b (outcome list) (refused ShortBuffers)) long
+
+-- what a filled or a refused outcome leaves, in buffers that are cleared where it is refused
+pub settled-filled : (x : Outcome) {answer : Answer} (n m : ℕ) (table levels : List ℕ) (k l : ℕ) → answer ≡ Filled n m → Left x answer table levels
+    → length table ≡ k → length levels ≡ l
+    → (Filled n m ≡ answerTo x) × (table ≡ tableBytes k x) × (levels ≡ levelBytes l x)
+settled-filled x n m table levels k l is left table-kept levels-kept =
+    let fills = rw is at left in
+    let bytes = left-filled x n m table levels fills in (
+      left-answer x table levels fills,
+      bytes .0 ∙ ap (λ i. tableBytes i x) table-kept,
+      bytes .1 ∙ ap (λ i. levelBytes i x) levels-kept,
+    )
+
+pub settled-refused : (x : Outcome) {answer : Answer} (why : Refusal) (left-table left-levels table levels : List ℕ) (k l : ℕ)
+    → answer ≡ Refused why → Left x answer left-table left-levels
+    → table ≡ zeros (length left-table) → levels ≡ zeros (length left-levels)
+    → length left-table ≡ k → length left-levels ≡ l
+    → (Refused why ≡ answerTo x) × (table ≡ tableBytes k x) × (levels ≡ levelBytes l x)
+settled-refused x why left-table left-levels table levels k l is left table-is levels-are table-kept levels-kept =
+    let refuses = rw is at left in (
+      left-answer x left-table left-levels refuses,
+      table-is ∙ ap zeros table-kept ∙ left-refused x why left-table left-levels refuses k .0,
+      levels-are ∙ ap zeros levels-kept ∙ left-refused x why left-table left-levels refuses l .1,
+    )
+
+-- The promise of `plan`, where the buffers were cleared first.
+module _ (list table levels scratch : List ℕ) {clear-table clear-levels clear-scratch : List ℕ} (cleared : clear-table ≡ zeros (length table))
+    (cleared-levels : clear-levels ≡ zeros (length levels)) (cleared-scratch : clear-scratch ≡ zeros (length scratch)) where
+  same-table : length clear-table ≡ length table
+  same-table = ap length cleared ∙ length-replicate (length table) 0
+
+  same-levels : length clear-levels ≡ length levels
+  same-levels = ap length cleared-levels ∙ length-replicate (length levels) 0
+
+  same-scratch : length clear-scratch ≡ length scratch
+  same-scratch = ap length cleared-scratch ∙ length-replicate (length scratch) 0
+
+  same-lengths : suffice (length clear-table) (length clear-levels) (length clear-scratch) ≡ suffice (length table) (length levels) (length scratch)
+  same-lengths = ap₂ (λ n m. suffice n m (length clear-scratch)) same-table same-levels ∙ ap (suffice (length table) (length levels)) same-scratch
+
+  -- question 1 refuses
+  pub promise-short : false ≡ suffice (length clear-table) (length clear-levels) (length clear-scratch)
+      → Promise list table levels scratch (Refused ShortBuffers) clear-table clear-levels clear-scratch
+  unfolding answerTo tableBytes levelBytes
+  promise-short short =
+      let refuses = planned-short list (length table) (length levels) (length scratch) (sym (short ∙ same-lengths)) in
+      promised list table levels scratch (Refused ShortBuffers) clear-table clear-levels clear-scratch
+      (sym (ap answerTo refuses))
+      (cleared ∙ sym (ap (tableBytes (length table)) refuses))
+      (cleared-levels ∙ sym (ap (levelBytes (length levels)) refuses))
+      cleared-scratch
+
+  -- the other questions are asked
+  module _ (enough : true ≡ suffice (length clear-table) (length clear-levels) (length clear-scratch)) where
+    pub cleared-long : LongEnough clear-table clear-levels clear-scratch
+    cleared-long = long-enough clear-table clear-levels clear-scratch .0 (subst T enough tt)
+
+    pub promise-asked : {answer : Answer} {table′ levels′ scratch′ : List ℕ} → answer ≡ answerTo (outcome list)
+        → table′ ≡ tableBytes (length clear-table) (outcome list) → levels′ ≡ levelBytes (length clear-levels) (outcome list)
+        → Zeros scratch′ → length scratch′ ≡ length clear-scratch
+        → Promise list table levels scratch answer table′ levels′ scratch′
+    unfolding Zeros
+    promise-asked {answer} {table′} {levels′} {scratch′} answered table-is levels-are clear kept =
+        let asked = sym (planned-long list (length table) (length levels) (length scratch) (sym (enough ∙ same-lengths))) in
+        promised list table levels scratch answer table′ levels′ scratch′
+        (answered ∙ ap answerTo asked)
+        (table-is ∙ ap₂ tableBytes same-table asked)
+        (levels-are ∙ ap₂ levelBytes same-levels asked)
+        (clear ∙ ap zeros (kept ∙ same-scratch))

@@ -1,0 +1,33 @@
+-- `construction::sum::put_levels` meets its contract: the summed columns' level counts, and then the adjoined columns'.
+use native.Mathlib.Omega.{arith}
+use lib.ListN.{length-append}
+use Rattle.buffers.proofs.Puts.{put-join, put-length}
+use borrow.Author.Needs.{needs}
+use Rattle.construction.proofs.sum.put_levels.Statement.{statement}
+use Rattle.construction.proofs.sum.put_levels.Tie as tie
+use Rattle.construction.proofs.sum.put_levels.Reads as reads
+use Rattle.construction.proofs.sum.put_levels.Lts as lts
+use Rattle.construction.proofs.sum.put_adjoined_levels.Reads as put-adjoined-levels-reads
+use Rattle.construction.proofs.sum.put_summed_levels.Reads as put-summed-levels-reads
+
+put-summed-levels-requires : tie.Need-put-summed-levels-requires
+put-summed-levels-requires c κs =
+    let start = c .before .before .before .before .before in
+    (start .pre .1 .0, omega (arith, simp length-append at (start .pre .1 .1)))
+
+put-adjoined-levels-requires : tie.Need-put-adjoined-levels-requires
+put-adjoined-levels-requires c κs =
+    let start = c .before .before .before .before .before .before .before .before .before in
+    let put = c .before .before .before .put-summed-levels .ensures in
+    (start .pre .0, omega (arith, simp length-append at (start .pre .1 .1), put .ends, put-length put))
+
+same-length : tie.Need-same-length
+same-length c = search needs
+
+returns : tie.Need-returns
+returns c = put-join (c .before .before .before .before .before .before .put-summed-levels .ensures) (c .before .before .put-adjoined-levels .ensures)
+
+pub put-levels-spec : {M : Type 1} → statement M
+put-levels-spec =
+    tie.close
+    (tie.spec put-summed-levels-requires put-adjoined-levels-requires same-length returns)

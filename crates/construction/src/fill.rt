@@ -1,0 +1,50 @@
+// Questions 2 to 8, on clear buffers that are long enough.
+ghost use Rattle.sheets.specs.Outcome.{outcome};
+ghost use Rattle.construction.specs.Bytes.{Zeros, LongEnough};
+ghost use Rattle.construction.specs.Carry.{Readable, passedIn, Left};
+use crate::carry::carry_out;
+use ingredients::passing::Passing;
+use ingredients::passing::first_failing;
+use order::Entries;
+use order::Reading;
+use order::first_out_of_range;
+use order::read;
+use sheets::answer::Answer;
+use sheets::answer::Refusal;
+
+// Question 4, and then the steps.
+fn check_and_carry_out(
+    list: &[u16],
+    table: &mut [u8],
+    levels: &mut [u8],
+    scratch: &mut [u8],
+) -> Answer
+    requires { ⌜ Readable (now list) ⌝ }
+    requires { ⌜ LongEnough (now table) (now levels) (now scratch) ⌝ }
+    requires { ⌜ Zeros (now table) × Zeros (now levels) × Zeros (now scratch) ⌝ }
+    ensures { λ r. ⌜ Left (passedIn (now (list .entry))) r (now (table .exit)) (now (levels .exit)) ⌝ }
+    ensures { λ r. ⌜ Zeros (now (scratch .exit)) ⌝ }
+{
+    match first_failing(list, scratch, levels) {
+        Passing::AllPass => carry_out(list, table, levels, scratch),
+        Passing::Refused(why) => Answer::Refused(why),
+    }
+}
+
+// Questions 2 and 3, and then the others.
+pub(crate) fn fill(list: &[u16], table: &mut [u8], levels: &mut [u8], scratch: &mut [u8]) -> Answer
+    requires { ⌜ LongEnough (now table) (now levels) (now scratch) ⌝ }
+    requires { ⌜ Zeros (now table) × Zeros (now levels) × Zeros (now scratch) ⌝ }
+    ensures { λ r. ⌜ Left (outcome (now (list .entry))) r (now (table .exit)) (now (levels .exit)) ⌝ }
+    ensures { λ r. ⌜ Zeros (now (scratch .exit)) ⌝ }
+{
+    match read(list) {
+        Reading::Refused { place } => Answer::Refused(Refusal::Unreadable { place }),
+        Reading::Reads => match first_out_of_range(list) {
+            Entries::InRange => check_and_carry_out(list, table, levels, scratch),
+            Entries::OutOfRange { place } => Answer::Refused(Refusal::EntryOutOfRange { place }),
+            // A list that reads is asked question 3.
+            Entries::Unread => Answer::Refused(Refusal::Unreadable { place: 0 }),
+        },
+    }
+}

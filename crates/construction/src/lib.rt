@@ -1,0 +1,68 @@
+// The construction of a run table from an order, in five kinds of steps: the planner.
+mod carry; // carry.rt: the steps, one after the other
+mod field; // field.rt: step 2
+mod fill; // fill.rt: questions 2 to 8
+mod merge; // merge.rt: step 4
+mod named_table; // named_table.rt: a table that a number names, put into a buffer
+mod settle; // settle.rt: a sheet built in the scratch takes the place of the sheet in hand
+mod size; // size.rt: the size of the sheet in hand
+mod split; // split.rt: step 5
+mod sum; // sum.rt: step 3
+mod take; // take.rt: step 1
+
+ghost use mathlib.Core.Path.{_≡_};
+ghost use lib.ListN.{length};
+ghost use Rattle.sheets.specs.Outcome.{outcome};
+ghost use Rattle.construction.specs.Bytes.{Zeros, LongEnough};
+ghost use Rattle.construction.specs.Promise.{suffice, answerTo, tableBytes, levelBytes, Promise};
+use buffers::clear;
+use fill::fill;
+use sheets::answer::Answer;
+use sheets::answer::Refusal;
+
+// Question 1: are the buffers long enough?
+fn long_enough(table: usize, levels: usize, scratch: usize) -> bool
+    ensures { λ r. ⌜ r ≡ suffice table levels scratch ⌝ }
+{
+    if table < 65536 {
+        return false;
+    }
+    if levels < 128 {
+        return false;
+    }
+    65536 <= scratch
+}
+
+// Questions 2 to 8; where one of them refuses the order, the buffers are cleared.
+fn fill_or_clear(list: &[u16], table: &mut [u8], levels: &mut [u8], scratch: &mut [u8]) -> Answer
+    requires { ⌜ LongEnough (now table) (now levels) (now scratch) ⌝ }
+    requires { ⌜ Zeros (now table) × Zeros (now levels) × Zeros (now scratch) ⌝ }
+    ensures { λ r. ⌜ r ≡ answerTo (outcome (now (list .entry))) ⌝ }
+    ensures { λ r. ⌜ now (table .exit) ≡ tableBytes (length (now (table .entry))) (outcome (now (list .entry))) ⌝ }
+    ensures { λ r. ⌜ now (levels .exit) ≡ levelBytes (length (now (levels .entry))) (outcome (now (list .entry))) ⌝ }
+    ensures { λ r. ⌜ Zeros (now (scratch .exit)) ⌝ }
+{
+    match fill(list, table, levels, scratch) {
+        Answer::Filled { runs, columns } => Answer::Filled { runs, columns },
+        Answer::Refused(why) => {
+            clear(table);
+            clear(levels);
+            Answer::Refused(why)
+        }
+    }
+}
+
+// Plans an order: writes the run table that the list orders, run by run, and its level counts, or refuses it and leaves zeros. Demands 1, 2 and 3
+// of document 01 are this one promise.
+pub fn plan(list: &[u16], table: &mut [u8], levels: &mut [u8], scratch: &mut [u8]) -> Answer
+    ensures { λ r. ⌜ Promise (now (list .entry)) (now (table .entry)) (now (levels .entry)) (now (scratch .entry)) r (now (table .exit)) (now (levels .exit)) (now (scratch .exit)) ⌝ }
+{
+    clear(table);
+    clear(levels);
+    clear(scratch);
+    if long_enough(table.len(), levels.len(), scratch.len()) {
+        fill_or_clear(list, table, levels, scratch)
+    } else {
+        Answer::Refused(Refusal::ShortBuffers)
+    }
+}
