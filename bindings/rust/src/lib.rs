@@ -1,0 +1,166 @@
+//! Plans mixed orthogonal run tables: a safe wrapper of `yurbantze_plan`, which is written in Rattle and proved. Its promise is in
+//! crates/exported/specs/Exported.antt; include/yurbantze.h says the same in words.
+use std::fmt;
+
+/// How long the three buffers must be for an order to be planned.
+pub const TABLE_LENGTH: usize = 65536;
+pub const LEVELS_LENGTH: usize = 128;
+pub const SCRATCH_LENGTH: usize = 65536;
+
+// A slice is handed over as a pointer and a length.
+extern "C" {
+    fn yurbantze_plan(
+        list: *const u16,
+        list_length: usize,
+        table: *mut u8,
+        table_length: usize,
+        levels: *mut u8,
+        levels_length: usize,
+        scratch: *mut u8,
+        scratch_length: usize,
+        answer: *mut [usize; 7],
+    ) -> usize;
+}
+
+/// A run table: in any two columns with s and t levels each pair of levels stands in exactly runs ÷ (s × t) runs, and in each column each level in
+/// runs ÷ s runs.
+#[derive(Clone, Debug, PartialEq, Eq)]
+pub struct Table {
+    runs: usize,
+    levels: Vec<u8>,
+    entries: Vec<u8>,
+}
+
+impl Table {
+    /// How many runs it has.
+    pub fn run_count(&self) -> usize {
+        self.runs
+    }
+
+    /// How many columns it has.
+    pub fn column_count(&self) -> usize {
+        self.levels.len()
+    }
+
+    /// The level count of each column.
+    pub fn levels(&self) -> &[u8] {
+        &self.levels
+    }
+
+    /// The runs in order, each with an entry for each column.
+    pub fn runs(&self) -> impl Iterator<Item = &[u8]> {
+        self.entries.chunks_exact(self.levels.len())
+    }
+}
+
+/// Why an order is refused. Columns, factors, steps, ingredients and members count from 1; places, runs and levels from 0; `times` is a number of
+/// runs.
+#[derive(Clone, Copy, Debug, PartialEq, Eq)]
+pub enum Refusal {
+    ShortBuffers,
+    Unreadable { place: usize },
+    EntryOutOfRange { place: usize },
+    UnevenLevel { ingredient: usize, column: usize, level: usize, times: usize },
+    UnevenPair { ingredient: usize, first: usize, second: usize, first_level: usize, second_level: usize, times: usize },
+    UnevenDifference { ingredient: usize, first: usize, second: usize, difference: usize, times: usize },
+    /// The coefficients are read base s, the first highest; an only factor has 0 in the place of a second.
+    Dependent { ingredient: usize, first: usize, second: usize, coefficients: usize },
+    StepNotAllowed { step: usize },
+    PartsDoNotFit { step: usize },
+    NotTheSum { step: usize, run: usize, member: usize },
+    TooLarge { step: usize, runs: usize, columns: usize },
+}
+
+impl Refusal {
+    // The refusal of seven numbers, of which the first is not 0. The promise says that there are no others.
+    fn from_numbers(numbers: [usize; 7]) -> Refusal {
+        let [number, a, b, c, d, e, f] = numbers;
+        match number {
+            1 => Refusal::ShortBuffers,
+            2 => Refusal::Unreadable { place: a },
+            3 => Refusal::EntryOutOfRange { place: a },
+            4 => Refusal::UnevenLevel { ingredient: a, column: b, level: c, times: d },
+            5 => Refusal::UnevenPair { ingredient: a, first: b, second: c, first_level: d, second_level: e, times: f },
+            6 => Refusal::UnevenDifference { ingredient: a, first: b, second: c, difference: d, times: e },
+            7 => Refusal::Dependent { ingredient: a, first: b, second: c, coefficients: d },
+            8 => Refusal::StepNotAllowed { step: a },
+            9 => Refusal::PartsDoNotFit { step: a },
+            10 => Refusal::NotTheSum { step: a, run: b, member: c },
+            11 => Refusal::TooLarge { step: a, runs: b, columns: c },
+            _ => unreachable!("no refusal has the number {number}"),
+        }
+    }
+
+    /// The number of the refusal and its six details, unused ones 0.
+    pub fn numbers(self) -> [usize; 7] {
+        match self {
+            Refusal::ShortBuffers => [1, 0, 0, 0, 0, 0, 0],
+            Refusal::Unreadable { place } => [2, place, 0, 0, 0, 0, 0],
+            Refusal::EntryOutOfRange { place } => [3, place, 0, 0, 0, 0, 0],
+            Refusal::UnevenLevel { ingredient, column, level, times } => [4, ingredient, column, level, times, 0, 0],
+            Refusal::UnevenPair { ingredient, first, second, first_level, second_level, times } => {
+                [5, ingredient, first, second, first_level, second_level, times]
+            }
+            Refusal::UnevenDifference { ingredient, first, second, difference, times } => [6, ingredient, first, second, difference, times, 0],
+            Refusal::Dependent { ingredient, first, second, coefficients } => [7, ingredient, first, second, coefficients, 0, 0],
+            Refusal::StepNotAllowed { step } => [8, step, 0, 0, 0, 0, 0],
+            Refusal::PartsDoNotFit { step } => [9, step, 0, 0, 0, 0, 0],
+            Refusal::NotTheSum { step, run, member } => [10, step, run, member, 0, 0, 0],
+            Refusal::TooLarge { step, runs, columns } => [11, step, runs, columns, 0, 0, 0],
+        }
+    }
+}
+
+impl fmt::Display for Refusal {
+    /// The line that the planner prints, without its line feed.
+    fn fmt(&self, f: &mut fmt::Formatter<'_>) -> fmt::Result {
+        write!(f, "refused")?;
+        self.numbers().iter().try_for_each(|number| write!(f, " {number}"))
+    }
+}
+
+impl std::error::Error for Refusal {}
+
+/// The numbers of runs and columns of a table that was written into buffers.
+#[derive(Clone, Copy, Debug, PartialEq, Eq)]
+pub struct Size {
+    pub runs: usize,
+    pub columns: usize,
+}
+
+/// Plans an order into buffers that the caller lends. Filled: the runs lie one after the other in `table`, the level counts in `levels`, and zeros
+/// after them. Refused: both are zeros. The scratch is zeros after every call. What the buffers hold before it does not matter.
+pub fn plan_into(list: &[u16], table: &mut [u8], levels: &mut [u8], scratch: &mut [u8]) -> Result<Size, Refusal> {
+    let mut answer = [0; 7];
+    // SAFETY: each pointer is a reference's, with the length of its slice, and so is not null, is aligned, and points to initialised elements; the
+    // references are borrowed until the call returns, those that are written without another. The function requires nothing else, and its proof says
+    // that it reads and writes within those lengths.
+    let number = unsafe {
+        yurbantze_plan(
+            list.as_ptr(),
+            list.len(),
+            table.as_mut_ptr(),
+            table.len(),
+            levels.as_mut_ptr(),
+            levels.len(),
+            scratch.as_mut_ptr(),
+            scratch.len(),
+            &mut answer,
+        )
+    };
+    match number {
+        0 => Ok(Size { runs: answer[1], columns: answer[2] }),
+        _ => Err(Refusal::from_numbers(answer)),
+    }
+}
+
+/// Plans an order: the run table that the list orders, or why there is none.
+pub fn plan(list: &[u16]) -> Result<Table, Refusal> {
+    let mut entries = vec![0; TABLE_LENGTH];
+    let mut levels = vec![0; LEVELS_LENGTH];
+    let mut scratch = vec![0; SCRATCH_LENGTH];
+    let Size { runs, columns } = plan_into(list, &mut entries, &mut levels, &mut scratch)?;
+    entries.truncate(runs * columns);
+    levels.truncate(columns);
+    Ok(Table { runs, levels, entries })
+}

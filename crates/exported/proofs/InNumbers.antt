@@ -1,0 +1,63 @@
+-- `plan`'s promise gives the promise in numbers: the first number is 0 for a filled order alone. Assumes nothing.
+use mathlib.Core.Path.{_≡_, refl, sym, _∙_, ap, subst}
+use mathlib.Core.Logic.{_↔_}
+use mathlib.Core.List.{List}
+use Prim.Native.Nat.{ℕ}
+use native.Mathlib.Omega.{arith}
+use lib.ListN.{length, getD}
+use Rattle.sheets.specs.Refusals.{numbered}
+use Rattle.sheets.specs.Fillable.{Fillable}
+use Rattle.sheets.specs.declared.answer.Refusal.{Refusal}
+use Rattle.sheets.specs.declared.answer.Refusal.the-variants.{ShortBuffers, Unreadable, EntryOutOfRange, UnevenLevel, UnevenPair, UnevenDifference, Dependent, StepNotAllowed, PartsDoNotFit, NotTheSum, TooLarge}
+use Rattle.sheets.specs.declared.answer.Answer.{Answer}
+use Rattle.sheets.specs.declared.answer.Answer.the-variants.{Filled, Refused}
+use Rattle.construction.specs.Bytes.{LongEnough}
+use Rattle.construction.specs.Promise.{EvenBytes, Promise}
+use Rattle.exported.specs.Numbers.{answerNumbers}
+use Rattle.exported.specs.Exported.{answerFrom, PromiseInNumbers}
+
+-- no refusal has the number 0
+refusal-not-zero : (why : Refusal) → getD (numbered why) 0 0 ≡ 0 → ⊥
+unfolding numbered
+refusal-not-zero ShortBuffers e = omega arith
+refusal-not-zero (Unreadable place) e = omega arith
+refusal-not-zero (EntryOutOfRange place) e = omega arith
+refusal-not-zero (UnevenLevel i c x times) e = omega arith
+refusal-not-zero (UnevenPair i c d x y times) e = omega arith
+refusal-not-zero (UnevenDifference i c d x times) e = omega arith
+refusal-not-zero (Dependent i c d coefficients) e = omega arith
+refusal-not-zero (StepNotAllowed step) e = omega arith
+refusal-not-zero (PartsDoNotFit step) e = omega arith
+refusal-not-zero (NotTheSum step run member) e = omega arith
+refusal-not-zero (TooLarge step runs columns) e = omega arith
+
+-- so 0 is a filled order, of the size that the next two numbers say
+zero-filled : (a : Answer) → getD (answerNumbers a) 0 0 ≡ 0 → a ≡ Filled (getD (answerNumbers a) 1 0) (getD (answerNumbers a) 2 0)
+unfolding answerNumbers
+zero-filled (Filled N m) e = refl
+zero-filled (Refused why) e = absurd (refusal-not-zero why e)
+
+filled-zero : (a : Answer) (N m : ℕ) → a ≡ Filled N m → getD (answerNumbers a) 0 0 ≡ 0
+unfolding answerNumbers
+filled-zero a N m e = ap (λ b. getD (answerNumbers b) 0 0) e
+
+module _ (list table levels scratch : List ℕ) (table′ levels′ scratch′ : List ℕ) where
+  in-numbers-of : (a : Answer) → Promise list table levels scratch a table′ levels′ scratch′ → a ≡ answerFrom list table levels scratch
+      → PromiseInNumbers list table levels scratch (getD (answerNumbers a) 0 0) (answerNumbers a) table′ levels′ scratch′
+  in-numbers-of a promise e =
+      record {
+        promised = subst (λ b. Promise list table levels scratch b table′ levels′ scratch′) e promise;
+        numbers-are = ap answerNumbers e;
+        number-is = refl;
+        filled-when = (
+          (λ z. promise .filled-when .0 (_, _, zero-filled a z)),
+          (λ h. let f = promise .filled-when .1 h in filled-zero a (f .0) (f .1) (f .2)),
+        );
+        even = λ z. promise .even _ _ (zero-filled a z);
+      }
+
+  pub in-numbers : {a : Answer} {number : ℕ} {numbers : List ℕ} → Promise list table levels scratch a table′ levels′ scratch′ → numbers ≡ answerNumbers a
+      → number ≡ getD numbers 0 0 → PromiseInNumbers list table levels scratch number numbers table′ levels′ scratch′
+  unfolding answerFrom
+  in-numbers {a} promise e first =
+      rw (first, e) (in-numbers-of a promise (promise .answered))

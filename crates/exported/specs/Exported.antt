@@ -1,0 +1,27 @@
+-- What the exported function promises: `plan`'s promise, with the answer as seven numbers.
+use mathlib.Core.Path.{_≡_}
+use mathlib.Core.Logic.{_↔_}
+use mathlib.Core.List.{List}
+use Prim.Native.Nat.{ℕ}
+use lib.ListN.{length, getD}
+use Rattle.sheets.specs.Fillable.{Fillable}
+use Rattle.sheets.specs.declared.answer.Answer.{Answer}
+use Rattle.construction.specs.Bytes.{LongEnough}
+use Rattle.construction.specs.Promise.{planned, answerTo, EvenBytes, Promise}
+use Rattle.exported.specs.Numbers.{answerNumbers}
+
+-- the answer that the definitions give from the list and the lengths of run table, level list and scratch
+unfoldable pub answerFrom : List ℕ → List ℕ → List ℕ → List ℕ → Answer
+answerFrom list table levels scratch = answerTo (planned list (length table) (length levels) (length scratch))
+
+-- The promise, for a list and the buffers as they were, the number that is returned, the seven numbers, and the buffers as they are.
+pub record PromiseInNumbers (list table levels scratch : List ℕ) (number : ℕ) (numbers table′ levels′ scratch′ : List ℕ) : Type 0 where
+  -- `plan`'s promise, for every byte of the three buffers
+  pub promised : Promise list table levels scratch (answerFrom list table levels scratch) table′ levels′ scratch′
+  -- the seven numbers are those of that answer, and the first of them is returned
+  pub numbers-are : numbers ≡ answerNumbers (answerFrom list table levels scratch)
+  pub number-is : number ≡ getD numbers 0 0
+  -- it is 0 exactly when the stated conditions hold
+  pub filled-when : (number ≡ 0) ↔ (LongEnough table levels scratch × Fillable list)
+  -- and then the second and the third say how many runs of how many columns lie in the run table, every column and every two columns even
+  pub even : number ≡ 0 → EvenBytes (getD numbers 1 0) (getD numbers 2 0) table′ levels′
