@@ -1,0 +1,181 @@
+//! Prints test vectors, a line for each: index | lengths of run table, level list and scratch |
+//! how many numbers, and these | answer. An answer is `F N m`, the level counts and the cells run
+//! by run, or `R`, the number and the six details. A summary goes to standard error.
+
+#![forbid(unsafe_code)]
+
+use second::maker::{edge_calls, large_calls, make, Call};
+use second::order::{self, Ingredient, Step};
+use second::Answer;
+use std::collections::BTreeMap;
+use std::io::{stdout, BufWriter, Write};
+
+const SEED: u64 = 20_260_101;
+const RANDOM: u64 = 3_000;
+
+fn main() -> std::io::Result<()> {
+    let mut calls: Vec<Call> = (0..RANDOM).map(|index| make(SEED + index)).collect();
+    calls.extend(edge_calls());
+    calls.extend(large_calls());
+
+    let mut out = BufWriter::new(stdout().lock());
+    let mut summary = Summary::default();
+    for (index, call) in calls.iter().enumerate() {
+        let answer = call.answer();
+        summary.note(call, &answer);
+        writeln!(
+            out,
+            "{index} | {} {} {} | {}{} | {}",
+            call.table_len,
+            call.levels_len,
+            call.scratch_len,
+            call.list.len(),
+            words(&call.list),
+            answer_words(&answer)
+        )?;
+    }
+    out.flush()?;
+    summary.print();
+    Ok(())
+}
+
+/// Every number with a space before it.
+fn words(numbers: &[impl ToString]) -> String {
+    numbers
+        .iter()
+        .map(|number| format!(" {}", number.to_string()))
+        .collect()
+}
+
+fn answer_words(answer: &Answer) -> String {
+    match answer {
+        Answer::Filled {
+            runs,
+            levels,
+            table,
+        } => {
+            format!("F {runs} {}{}{}", levels.len(), words(levels), words(table))
+        }
+        Answer::Refused { number, details } => format!("R {number}{}", words(details)),
+    }
+}
+
+/// Counts: for steps and fields, how many were reached, and how many of them in filled orders.
+#[derive(Default)]
+struct Summary {
+    answers: BTreeMap<u8, usize>,
+    steps: BTreeMap<&'static str, [usize; 2]>,
+    refusing_steps: BTreeMap<(u8, &'static str), usize>,
+    fields_checked: BTreeMap<usize, [usize; 2]>,
+    fields_run: BTreeMap<usize, [usize; 2]>,
+    merges: BTreeMap<usize, [usize; 2]>,
+    numbers_in_list: Vec<usize>,
+    cells_in_filled: Vec<usize>,
+}
+
+impl Summary {
+    fn note(&mut self, call: &Call, answer: &Answer) {
+        self.numbers_in_list.push(call.list.len());
+        let (number, details) = match answer {
+            Answer::Filled { table, .. } => {
+                self.cells_in_filled.push(table.len());
+                (0, [0; 6])
+            }
+            Answer::Refused { number, details } => (*number, *details),
+        };
+        *self.answers.entry(number).or_default() += 1;
+        if (1..=3).contains(&number) {
+            return;
+        }
+
+        let filled = usize::from(number == 0);
+        let order = order::read(&call.list).expect("question 2 was passed");
+        let checked = match number {
+            4..=7 => details[0] as usize,
+            _ => order.ingredients.len(),
+        };
+        for ingredient in &order.ingredients[..checked] {
+            if let Ingredient::Generator(generator) = ingredient {
+                count(&mut self.fields_checked, generator.s, filled);
+            }
+        }
+        let reached = match number {
+            0 => order.steps.len(),
+            8..=11 => details[0] as usize,
+            _ => 0,
+        };
+        for (index, step) in order.steps[..reached].iter().enumerate() {
+            let kind = match step {
+                Step::Take { .. } => "TAKE",
+                Step::Field { generator } => {
+                    if let Some(Ingredient::Generator(generator)) =
+                        order.ingredients.get(generator - 1)
+                    {
+                        count(&mut self.fields_run, generator.s, filled);
+                    }
+                    "FIELD"
+                }
+                Step::Sum { .. } => "SUM",
+                Step::Merge { p, .. } => {
+                    count(&mut self.merges, *p, filled);
+                    "MERGE"
+                }
+                Step::Split { .. } => "SPLIT",
+            };
+            count(&mut self.steps, kind, filled);
+            if number != 0 && index + 1 == reached {
+                *self.refusing_steps.entry((number, kind)).or_default() += 1;
+            }
+        }
+    }
+
+    fn print(&self) {
+        eprintln!("{} vectors", self.answers.values().sum::<usize>());
+        for (number, times) in &self.answers {
+            let name = if *number == 0 {
+                "filled".to_string()
+            } else {
+                format!("refused {number}")
+            };
+            eprintln!("  {name}: {times}");
+        }
+        eprintln!("refusals by step:");
+        for ((number, kind), times) in &self.refusing_steps {
+            eprintln!("  {number} at {kind}: {times}");
+        }
+        eprintln!("steps reached (in filled orders):");
+        print_counts(&self.steps);
+        eprintln!("generators counted, by s (in filled orders):");
+        print_counts(&self.fields_checked);
+        eprintln!("FIELD steps reached, by s (in filled orders):");
+        print_counts(&self.fields_run);
+        eprintln!("MERGE steps reached, by p (in filled orders):");
+        print_counts(&self.merges);
+        print_sizes("numbers in a list", &self.numbers_in_list);
+        print_sizes("cells of a filled table", &self.cells_in_filled);
+    }
+}
+
+fn count<Key: Ord>(counts: &mut BTreeMap<Key, [usize; 2]>, key: Key, filled: usize) {
+    let both = counts.entry(key).or_default();
+    both[0] += 1;
+    both[1] += filled;
+}
+
+fn print_counts<Key: std::fmt::Display>(counts: &BTreeMap<Key, [usize; 2]>) {
+    for (key, [all, filled]) in counts {
+        eprintln!("  {key}: {all} ({filled})");
+    }
+}
+
+fn print_sizes(name: &str, sizes: &[usize]) {
+    let mut sizes = sizes.to_vec();
+    sizes.sort();
+    let at = |percent: usize| sizes[(sizes.len() - 1) * percent / 100];
+    eprintln!(
+        "{name}: half up to {}, nine tenths up to {}, most {}",
+        at(50),
+        at(90),
+        at(100)
+    );
+}

@@ -1,0 +1,93 @@
+//! A second implementation of the planner of document 01, written from that document alone and as
+//! plainly as possible, to be compared with the proved one. "01" in comments is that document.
+//!
+//! - `order`: question 2, from numbers to an order;
+//! - `counting`: question 4, does an ingredient pass;
+//! - `steps`: questions 5 to 8 and what each step leaves;
+//! - `field`: sums and products of the seven fields;
+//! - `text`: words in, printed runs out;
+//! - `maker`: random orders for the vectors and the tests; the planner does not use it.
+
+#![forbid(unsafe_code)]
+
+mod counting;
+pub mod field;
+pub mod maker;
+pub mod order;
+mod steps;
+mod text;
+
+pub use text::{print, scan};
+
+/// What an order comes to.
+#[derive(Clone, Debug, PartialEq, Eq)]
+pub enum Answer {
+    /// The number of runs, the level count of each column, and the cells run by run.
+    Filled {
+        runs: usize,
+        levels: Vec<u8>,
+        table: Vec<u8>,
+    },
+    /// The number of the refusal and its six details, unused ones 0.
+    Refused { number: u8, details: [u32; 6] },
+}
+
+/// A refusal; the details that are not given are 0.
+fn refused(number: u8, given: &[usize]) -> Answer {
+    let mut details = [0; 6];
+    for (place, &detail) in given.iter().enumerate() {
+        details[place] = detail as u32;
+    }
+    Answer::Refused { number, details }
+}
+
+/// Asks the questions of 01 in turn, of an order and the lengths of the three buffers.
+pub fn plan(list: &[u16], table_len: usize, levels_len: usize, scratch_len: usize) -> Answer {
+    match last_sheet(list, table_len, levels_len, scratch_len) {
+        Ok(sheet) => Answer::Filled {
+            runs: sheet.runs.len(),
+            levels: sheet.levels.iter().map(|&level| level as u8).collect(),
+            table: sheet.runs.concat().iter().map(|&cell| cell as u8).collect(),
+        },
+        Err(refusal) => refusal,
+    }
+}
+
+/// The sheet that the last step leaves, or the refusal of the first question answered No.
+fn last_sheet(
+    list: &[u16],
+    table_len: usize,
+    levels_len: usize,
+    scratch_len: usize,
+) -> Result<order::Table, Answer> {
+    // Question 1.
+    if table_len < 65_536 || scratch_len < 65_536 || levels_len < 128 {
+        return Err(refused(1, &[]));
+    }
+    // Question 2.
+    let order = match order::read(list) {
+        Ok(order) => order,
+        Err(place) => return Err(refused(2, &[place])),
+    };
+    // Question 3. The entries are in the order of their places.
+    for entry in &order.entries {
+        if entry.value >= entry.limit {
+            return Err(refused(3, &[entry.place]));
+        }
+    }
+    // Question 4.
+    for (index, ingredient) in order.ingredients.iter().enumerate() {
+        counting::check(index + 1, ingredient)?;
+    }
+    // Questions 5 to 8, step by step.
+    let mut sheet = None;
+    for (index, step) in order.steps.iter().enumerate() {
+        sheet = Some(steps::carry_out(
+            index + 1,
+            step,
+            sheet,
+            &order.ingredients,
+        )?);
+    }
+    Ok(sheet.expect("question 2 lets no order without a step through"))
+}

@@ -1,0 +1,15 @@
+//! Reads an order from standard input and prints the runs or the refusal.
+
+#![forbid(unsafe_code)]
+
+use std::io::{stdin, stdout, Read, Write};
+
+fn main() -> std::io::Result<()> {
+    let mut input = Vec::new();
+    stdin().read_to_end(&mut input)?;
+    let answer = match second::scan(&input) {
+        Ok(list) => second::plan(&list, 65_536, 128, 65_536),
+        Err(refusal) => refusal,
+    };
+    stdout().write_all(second::print(&answer).as_bytes())
+}

@@ -1,0 +1,243 @@
+//! Questions 5 to 8 of one step, and the sheet that it leaves.
+
+use crate::field;
+use crate::order::{Generator, Ingredient, Matrix, Step, Table};
+use crate::{refused, Answer};
+
+/// The sheet after the step, or the step's refusal. Before the first step there is no sheet.
+pub fn carry_out(
+    step_number: usize,
+    step: &Step,
+    sheet: Option<Table>,
+    ingredients: &[Ingredient],
+) -> Result<Table, Answer> {
+    // Question 5: a step out of turn, or an ingredient that is not there or of another kind.
+    let not_to_be_had = refused(8, &[step_number]);
+    let table = |number| table_of(ingredients, number).ok_or(not_to_be_had.clone());
+    let matrix = |number| matrix_of(ingredients, number).ok_or(not_to_be_had.clone());
+    let generator = |number| generator_of(ingredients, number).ok_or(not_to_be_had.clone());
+
+    match (sheet, step) {
+        (None, Step::Take { table: i }) => table(*i),
+        (None, Step::Field { generator: i }) => Ok(field_table(&generator(*i)?)),
+        (Some(sheet), Step::Sum { matrices, k }) => {
+            let mut named = Vec::new();
+            for &d in matrices {
+                named.push(matrix(d)?);
+            }
+            let adjoined = if *k == 0 { None } else { Some(table(*k)?) };
+            sum(step_number, &sheet, &named, adjoined)
+        }
+        (Some(sheet), Step::Merge { p, members }) => merge(step_number, &sheet, *p, members),
+        (Some(sheet), Step::Split { column, table: i }) => {
+            split(step_number, &sheet, *column, &table(*i)?)
+        }
+        _ => Err(not_to_be_had),
+    }
+}
+
+fn table_of(ingredients: &[Ingredient], number: usize) -> Option<Table> {
+    if number > 100 {
+        return house_table(number);
+    }
+    match ingredients.get(number - 1) {
+        Some(Ingredient::Table(table)) => Some(table.clone()),
+        _ => None,
+    }
+}
+
+fn matrix_of(ingredients: &[Ingredient], number: usize) -> Option<Matrix> {
+    match ingredients.get(number - 1) {
+        Some(Ingredient::Matrix(matrix)) => Some(matrix.clone()),
+        _ => None,
+    }
+}
+
+fn generator_of(ingredients: &[Ingredient], number: usize) -> Option<Generator> {
+    match ingredients.get(number - 1) {
+        Some(Ingredient::Generator(generator)) => Some(generator.clone()),
+        _ => None,
+    }
+}
+
+fn house_table(number: usize) -> Option<Table> {
+    let (levels, runs) = match number {
+        101 => ("222", "000 011 101 110"),
+        102 => ("3333", "0000 0111 0222 1012 1120 1201 2021 2102 2210"),
+        103 => (
+            "32222",
+            "00000 01110 00101 01011 10001 11100 10110 11011 20010 21101 20111 21000",
+        ),
+        104 => ("622", "000 011 101 110 200 211 301 310 400 411 501 510"),
+        _ => return None,
+    };
+    let digits = |word: &str| word.bytes().map(|byte| (byte - b'0') as usize).collect();
+    Some(Table {
+        levels: digits(levels),
+        runs: runs.split(' ').map(digits).collect(),
+    })
+}
+
+/// FIELD. A generator leaves at most 512 runs and 128 columns.
+fn field_table(generator: &Generator) -> Table {
+    let s = generator.s;
+    let mut runs = Vec::new();
+    for number in 0..s.pow(generator.t as u32) {
+        let tuple = field::digits(number, s, generator.t);
+        let mut run = Vec::new();
+        for factor in &generator.factors {
+            let values: Vec<usize> = factor
+                .iter()
+                .map(|column| times(s, &tuple, column))
+                .collect();
+            run.push(field::number(&values, s));
+        }
+        runs.push(run);
+    }
+    let levels = generator
+        .factors
+        .iter()
+        .map(|factor| s.pow(factor.len() as u32))
+        .collect();
+    Table { levels, runs }
+}
+
+/// The tuple times a column: the products of their elements, added up.
+fn times(s: usize, tuple: &[usize], column: &[usize]) -> usize {
+    let mut total = 0;
+    for (&a, &b) in tuple.iter().zip(column) {
+        total = field::sum(s, total, field::product(s, a, b));
+    }
+    total
+}
+
+fn sum(
+    step_number: usize,
+    sheet: &Table,
+    matrices: &[Matrix],
+    adjoined: Option<Table>,
+) -> Result<Table, Answer> {
+    // Question 6.
+    let unfit = refused(9, &[step_number]);
+    let m = matrices[0].rows.len();
+    for (index, matrix) in matrices.iter().enumerate() {
+        let p_was_there = matrices[..index]
+            .iter()
+            .any(|earlier| earlier.p == matrix.p);
+        if matrix.rows.len() != m || p_was_there {
+            return Err(unfit);
+        }
+    }
+    let mut server = Vec::new(); // for each sheet column, its matrix
+    for &level_count in &sheet.levels {
+        match matrices.iter().find(|matrix| matrix.p == level_count) {
+            Some(matrix) => server.push(matrix),
+            None => return Err(unfit),
+        }
+    }
+    // Nothing adjoined is M runs of no columns.
+    let k = adjoined.unwrap_or(Table {
+        levels: vec![],
+        runs: vec![vec![]; m],
+    });
+    if k.runs.len() != m {
+        return Err(unfit);
+    }
+
+    // Question 8.
+    let columns = server.iter().map(|matrix| matrix.columns).sum::<usize>() + k.levels.len();
+    within_limits(step_number, sheet.runs.len() * m, columns)?;
+
+    let mut levels = Vec::new();
+    for matrix in &server {
+        for _ in 0..matrix.columns {
+            levels.push(matrix.p);
+        }
+    }
+    levels.extend(&k.levels);
+
+    let mut runs = Vec::new();
+    for sheet_run in &sheet.runs {
+        for y in 0..m {
+            let mut run = Vec::new();
+            for (j, matrix) in server.iter().enumerate() {
+                for c in 0..matrix.columns {
+                    run.push((sheet_run[j] + matrix.rows[y][c]) % matrix.p);
+                }
+            }
+            run.extend(&k.runs[y]);
+            runs.push(run);
+        }
+    }
+    Ok(Table { levels, runs })
+}
+
+fn merge(step_number: usize, sheet: &Table, p: usize, members: &[usize]) -> Result<Table, Answer> {
+    // Question 6.
+    let unfit = refused(9, &[step_number]);
+    for (index, member) in members.iter().enumerate() {
+        if *member > sheet.levels.len()
+            || members[..index].contains(member)
+            || sheet.levels[member - 1] != p
+        {
+            return Err(unfit);
+        }
+    }
+
+    // Question 7. Member h stands at h - 1 in the list of members.
+    for (run_number, run) in sheet.runs.iter().enumerate() {
+        let entry = |h: usize| run[members[h - 1] - 1];
+        for h in 3..=p + 1 {
+            if entry(h) != (entry(1) + (h - 2) * entry(2)) % p {
+                return Err(refused(10, &[step_number, run_number, h]));
+            }
+        }
+    }
+
+    // Question 8. There are fewer columns than before, and no more runs.
+    let mut levels = Vec::new();
+    let mut runs = vec![Vec::new(); sheet.runs.len()];
+    for column in 1..=sheet.levels.len() {
+        if column == members[0] {
+            levels.push(p * p);
+            for (new, old) in runs.iter_mut().zip(&sheet.runs) {
+                new.push(p * old[members[0] - 1] + old[members[1] - 1]);
+            }
+        } else if !members.contains(&column) {
+            levels.push(sheet.levels[column - 1]);
+            for (new, old) in runs.iter_mut().zip(&sheet.runs) {
+                new.push(old[column - 1]);
+            }
+        }
+    }
+    Ok(Table { levels, runs })
+}
+
+fn split(step_number: usize, sheet: &Table, column: usize, table: &Table) -> Result<Table, Answer> {
+    // Question 6.
+    if column > sheet.levels.len() || sheet.levels[column - 1] != table.runs.len() {
+        return Err(refused(9, &[step_number]));
+    }
+
+    // Question 8.
+    let columns = sheet.levels.len() - 1 + table.levels.len();
+    within_limits(step_number, sheet.runs.len(), columns)?;
+
+    let in_its_place =
+        |old: &[usize], new: &[usize]| [&old[..column - 1], new, &old[column..]].concat();
+    let levels = in_its_place(&sheet.levels, &table.levels);
+    let mut runs = Vec::new();
+    for run in &sheet.runs {
+        let level = run[column - 1];
+        runs.push(in_its_place(run, &table.runs[level]));
+    }
+    Ok(Table { levels, runs })
+}
+
+/// Question 8.
+fn within_limits(step_number: usize, runs: usize, columns: usize) -> Result<(), Answer> {
+    if runs > 512 || columns > 128 {
+        return Err(refused(11, &[step_number, runs, columns]));
+    }
+    Ok(())
+}

@@ -1,0 +1,43 @@
+//! The program, from standard input to standard output.
+
+use std::io::Write;
+use std::process::{Command, Stdio};
+
+fn printed(input: &[u8]) -> String {
+    let mut program = Command::new(env!("CARGO_BIN_EXE_second"))
+        .stdin(Stdio::piped())
+        .stdout(Stdio::piped())
+        .spawn()
+        .unwrap();
+    program.stdin.take().unwrap().write_all(input).unwrap();
+    let output = program.wait_with_output().unwrap();
+    assert!(output.status.success());
+    String::from_utf8(output.stdout).unwrap()
+}
+
+#[test]
+fn prints_runs() {
+    assert_eq!(printed(b"0 2 1 101 4 2 1 2 3"), "4 1\n4\n0\n1\n2\n3\n");
+    assert_eq!(
+        printed(b"\n0\t0001\n1 00101\n\n"),
+        "4 3\n2 2 2\n0 0 0\n0 1 1\n1 0 1\n1 1 0\n"
+    );
+}
+
+#[test]
+fn prints_refusals() {
+    assert_eq!(printed(b""), "refused 2 0 0 0 0 0 0\n");
+    assert_eq!(printed(b"0 1 1 101 x"), "refused 2 4 0 0 0 0 0\n");
+    assert_eq!(printed(b"0 1 1 101 5"), "refused 2 4 0 0 0 0 0\n");
+    // Words are looked at before the list is tried.
+    assert_eq!(printed(b"99 1 65536"), "refused 2 2 0 0 0 0 0\n");
+    assert_eq!(printed(b"99 1 65535"), "refused 2 0 0 0 0 0 0\n");
+    assert_eq!(
+        printed("7\n".repeat(40_000).as_bytes()),
+        "refused 2 32768 0 0 0 0 0\n"
+    );
+    assert_eq!(
+        printed(b"1 1 4 2 2 2 0 0 0 0 1 1 1 1 1 1 1"),
+        "refused 5 1 1 2 0 0 2\n"
+    );
+}
