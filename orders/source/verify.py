@@ -1,0 +1,109 @@
+"""Checks every block of arrays.txt by plain counting, with the definitions of document 01.
+
+A table passes when each level of each column stands in runs / s runs and each pair of levels
+of every two columns in runs / (s * t) runs. A matrix passes when, for every two columns, the
+differences modulo p, first minus second, take each value rows / p times. Columns are named
+from 1, levels and differences from 0. A matrix that its comment places over GF(4), and that
+fails modulo 4, is counted again with the differences of GF(4), which are exclusive ors.
+
+The last line sums up, and the exit status is 0 when every block passes, or, where its comment
+says that it does not pass modulo p, fails modulo p and passes over GF(4).
+"""
+
+import sys
+from itertools import combinations
+from pathlib import Path
+
+
+def read_blocks(text):
+    """Yields (comments, kind, name, sizes, rows); sizes are the numbers after the name."""
+    comments, head, rows = [], None, []
+    for line in text.split("\n") + [""]:
+        if line.startswith("#"):
+            comments.append(line[1:].strip())
+        elif line == "":
+            if head:
+                yield comments, head[0], head[1], [int(w) for w in head[2:]], rows
+            comments, head, rows = [], None, []
+        elif head is None:
+            head = line.split(" ")
+        else:
+            rows.append([int(w) for w in line.split(" ")])
+
+
+def shape_failure(rows, row_count, column_count, limits):
+    """The first row of a wrong length or entry that is not below its limit, or None."""
+    if len(rows) != row_count:
+        return f"{len(rows)} rows, not {row_count}"
+    for y, row in enumerate(rows):
+        if len(row) != column_count:
+            return f"row {y} has {len(row)} entries, not {column_count}"
+        for c, entry in enumerate(row):
+            if not 0 <= entry < limits[c]:
+                return f"row {y}, column {c + 1}: entry {entry} is not below {limits[c]}"
+    return None
+
+
+def table_failure(runs, levels):
+    """The first uneven column, else the first uneven pair of columns, or None."""
+    n = len(runs)
+    for c, s in enumerate(levels):
+        for x in range(s):
+            times = sum(run[c] == x for run in runs)
+            if s * times != n:
+                return f"column {c + 1}, level {x}: {times} times"
+    for a, b in combinations(range(len(levels)), 2):
+        s, t = levels[a], levels[b]
+        for x in range(s):
+            for y in range(t):
+                times = sum(run[a] == x and run[b] == y for run in runs)
+                if s * t * times != n:
+                    return f"columns {a + 1} {b + 1}, levels {x} {y}: {times} times"
+    return None
+
+
+def matrix_failure(rows, p, difference):
+    """The first pair of columns whose differences are uneven, or None."""
+    for a, b in combinations(range(len(rows[0])), 2):
+        differences = [difference(row[a], row[b]) for row in rows]
+        for d in range(p):
+            times = differences.count(d)
+            if p * times != len(rows):
+                return f"columns {a + 1} {b + 1}, difference {d}: {times} times"
+    return None
+
+
+def check(comments, kind, name, sizes, rows):
+    """Returns the line to print and whether the block is as its comment says."""
+    row_count, column_count, rest = sizes[0], sizes[1], sizes[2:]
+    if kind == "table":
+        limits = rest if len(rest) == column_count else []
+    else:
+        limits = rest * column_count if kind == "matrix" and len(rest) == 1 else []
+    if len(limits) != column_count:
+        return f"{name} fails: bad header", False
+    failure = shape_failure(rows, row_count, column_count, limits)
+    if failure is None and kind == "table":
+        failure = table_failure(rows, limits)
+    elif failure is None:
+        p = rest[0]
+        failure = matrix_failure(rows, p, lambda x, y: (x - y) % p)
+        if failure and p == 4 and "over GF(4), does not pass modulo 4" in comments:
+            over_field = matrix_failure(rows, p, lambda x, y: x ^ y)
+            verdict = f"fails too: {over_field}" if over_field else "passes"
+            return f"{name} fails modulo 4: {failure}; over GF(4) it {verdict}", over_field is None
+    return (f"{name} fails: {failure}", False) if failure else (f"{name} passes", True)
+
+
+def main():
+    text = Path(__file__).with_name("arrays.txt").read_text()
+    results = [check(*block) for block in read_blocks(text)]
+    for line, _ in results:
+        print(line)
+    as_said = sum(ok for _, ok in results)
+    print(f"{len(results)} blocks, {as_said} as their comments say")
+    return 0 if as_said == len(results) else 1
+
+
+if __name__ == "__main__":
+    sys.exit(main())
