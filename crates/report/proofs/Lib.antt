@@ -1,0 +1,3 @@
+pub mod AnswerLines
+pub mod Padded
+pub mod Printed

@@ -1,0 +1,32 @@
+-- The example that document 01 prints: the bytes of `0 2 1 101 4 2 1 2 3` go in, and the bytes of its six lines come out. Computed.
+-- Assumes nothing.
+use mathlib.Core.Path.{_≡_, refl}
+use mathlib.Core.List.{List, [], _∷_, map, flatMap}
+use mathlib.Core.Option.{bind}
+use Prim.Native.Nat.{ℕ}
+use Rattle.finite.specs.First.{first}
+use Rattle.counting.specs.Generator.{from}
+use Rattle.counting.specs.Table.{tableOf}
+use Rattle.house.specs.House.{houseTable, houseOf, house101}
+use Rattle.order.specs.Reader.{allowed}
+use Rattle.order.specs.Reader as reader
+use Rattle.order.specs.Grammar.{readIngredient, readNaming, readSum, readMerge, readSplit, readStep, readParts, readOrder}
+use Rattle.order.specs.Range.{ingredientRange, rangeOf}
+use Rattle.sheets.specs.Sheet.{fromSources, takeStep, smallEnough}
+use Rattle.sheets.specs.Merge.{mergePlace, mergeSources, mergeLevels, mergedLevel, mergeValue, mergeStep, mergeFits, memberSum, memberFaultAt, memberFault}
+use Rattle.sheets.specs.Ingredients.{asTable, listed, tableNamed}
+use Rattle.sheets.specs.Steps.{proceed, provided, opening, operation, fits, wrongMember, applied, sized, afterSums, operate, firstStep, laterStep, laterSteps, allSteps}
+use Rattle.sheets.specs.Outcome.{rangeRefusal, ingredientRefusal, ingredientsRefusal, unless, readOutcome, outcome}
+use Rattle.text.specs.Words.{isGap, words, isDigit, decimal, isNumber, reading}
+use Rattle.text.specs.Lines.{digits, line, printed}
+use Rattle.report.specs.Report.{outcomePrinted, output}
+
+abbrev pub input : List ℕ
+input = 48 ∷ 32 ∷ 50 ∷ 32 ∷ 49 ∷ 32 ∷ 49 ∷ 48 ∷ 49 ∷ 32 ∷ 52 ∷ 32 ∷ 50 ∷ 32 ∷ 49 ∷ 32 ∷ 50 ∷ 32 ∷ 51 ∷ []
+
+abbrev pub lines : List ℕ
+lines = 52 ∷ 32 ∷ 49 ∷ 10 ∷ 52 ∷ 10 ∷ 48 ∷ 10 ∷ 49 ∷ 10 ∷ 50 ∷ 10 ∷ 51 ∷ 10 ∷ []
+
+pub printed-example : output input ≡ lines
+unfolding bind flatMap first from tableOf houseTable houseOf house101 allowed reader.numbers readIngredient readNaming readSum readMerge readSplit readStep readParts readOrder ingredientRange rangeOf fromSources takeStep smallEnough mergePlace mergeSources mergeLevels mergedLevel mergeValue mergeStep mergeFits memberSum memberFaultAt memberFault asTable listed tableNamed proceed provided opening operation fits wrongMember applied sized afterSums operate firstStep laterStep laterSteps allSteps rangeRefusal ingredientRefusal ingredientsRefusal unless readOutcome outcome isGap words isDigit decimal isNumber reading digits line printed outcomePrinted output
+printed-example = refl

@@ -1,0 +1,53 @@
+-- What is printed of an answer: document 01, "Printed runs".
+use mathlib.Core.List.{List, [], _∷_, map, flatMap}
+use Prim.Native.Nat.{ℕ, _+_, _*_, _≤_}
+use lib.ListN.{length, getD, take, drop}
+use Rattle.counting.specs.Generator.{from}
+use Rattle.counting.specs.Table.{columns}
+use Rattle.text.specs.Lines.{refusedLine, printed, printedLines}
+use Rattle.text.specs.Words.{Reading, numbers, refused, reading}
+use Rattle.sheets.specs.Refusals.{numbered}
+use Rattle.sheets.specs.Steps as steps
+use Rattle.sheets.specs.Outcome.{outcome}
+use Rattle.sheets.specs.declared.answer.Refusal.{Refusal}
+use Rattle.sheets.specs.declared.answer.Refusal.the-variants.{Unreadable}
+use Rattle.sheets.specs.declared.answer.Answer.{Answer}
+use Rattle.sheets.specs.declared.answer.Answer.the-variants.{Filled, Refused}
+
+-- "A refusal prints one line: "refused", the number and the six details."
+unfoldable pub refusalLine : Refusal → List ℕ
+refusalLine why = refusedLine (getD (numbered why) 0 0) (drop 1 (numbered why))
+
+-- The lines of an answer, with the level list and the run table that came with it: of a filled order "N m", the level counts and the runs.
+unfoldable pub answerLines : Answer → List ℕ → List ℕ → List (List ℕ)
+answerLines (Filled runs columns) levels cells = printedLines runs (take columns levels) cells
+answerLines (Refused why) levels cells = refusalLine why ∷ []
+
+-- How many they are.
+unfoldable pub lineCount : Answer → ℕ
+lineCount (Filled runs columns) = runs + 2
+lineCount (Refused why) = 1
+
+-- A table that lies in its buffers and whose lines are at most 512 bytes long.
+pub record Fitting (runs columns : ℕ) (levels cells : List ℕ) : Type 0 where
+  pub narrow : columns ≤ 128
+  pub levels-there : columns ≤ length levels
+  pub cells-there : runs * columns ≤ length cells
+
+unfoldable pub Printable : Answer → List ℕ → List ℕ → Type 0
+Printable (Filled runs columns) levels cells = Fitting runs columns levels cells
+Printable (Refused why) levels cells = Unit {0}
+
+-- What the program prints, from what it reads, both as bytes. First of an outcome: the table run by run, or the refusal.
+unfoldable pub outcomePrinted : steps.Outcome → List ℕ
+outcomePrinted (steps.filled S) = printed (S .runs) (S .levels) (flatMap (λ r. map (S .cell r) (from 0 (columns S))) (from 0 (S .runs)))
+outcomePrinted (steps.refused why) = refusalLine why
+
+-- "The first word that is no decimal number up to 65,535, or else the 32,769th word, whichever comes earlier, is refused as 2 at its place before
+-- the list is tried."
+abbrev pub readingPrinted : Reading → List ℕ
+readingPrinted (numbers list) = outcomePrinted (outcome list)
+readingPrinted (refused place) = refusalLine (Unreadable place)
+
+unfoldable pub output : List ℕ → List ℕ
+output input = readingPrinted (reading input)
