@@ -3,7 +3,7 @@
 use mathlib.Core.Path.{_≡_, refl, sym, _∙_, ap, ap₂}
 use mathlib.Core.Bool.{Bool, true, false, _&&_, and-assoc, and-false}
 use mathlib.Core.List.{List, [], _∷_, _++_, flatMap, append-nil}
-use Prim.Native.Nat.{ℕ, zero, suc, _+_, _≤_, _<_, zero-le}
+use Prim.Native.Nat.{ℕ, suc, _+_, _≤_, _<_, zero-le}
 use native.Mathlib.Nat.{zero-add}
 use native.Mathlib.Numerals.{add-one}
 use native.Mathlib.Omega.{arith}
@@ -16,7 +16,7 @@ use Rattle.buffers.proofs.Puts.{put-none, put-join, put-next, put-length}
 use Rattle.counting.specs.Generator.{from}
 use Rattle.counting.proofs.Lists.{length-from}
 use Rattle.sheets.specs.Lists.{allOf}
-use Rattle.construction.proofs.Bytes.{flatMap-append}
+use Rattle.construction.proofs.Bytes.{flatMap-append, getD-from}
 
 -- ---- every element passes a test
 
@@ -26,18 +26,18 @@ module _ {A : Type 0} (test : A → Bool) where
   allOf-append (x ∷ xs) ys = ap (λ b. test x && b) (allOf-append xs ys) ∙ sym (and-assoc (test x) (allOf test xs) (allOf test ys))
 
 -- The first n numbers of a list pass.
-pub record Passing (test : ℕ → Bool) (xs : List ℕ) (n : ℕ) : Type 0 where
+pub record PassSoFar (test : ℕ → Bool) (xs : List ℕ) (n : ℕ) : Type 0 where
   pub passed : allOf test (take n xs) ≡ true
 
-pub passing-none : (test : ℕ → Bool) (xs : List ℕ) → Passing test xs 0
+pub passing-none : (test : ℕ → Bool) (xs : List ℕ) → PassSoFar test xs 0
 passing-none test xs = record { passed = refl }
 
-module _ {test : ℕ → Bool} {xs : List ℕ} {n : ℕ} (w : Passing test xs n) where
+module _ {test : ℕ → Bool} {xs : List ℕ} {n : ℕ} (w : PassSoFar test xs n) where
   pub passing-all : length xs ≤ n → true ≡ allOf test xs
   passing-all h = sym (rw (take-all n xs h) at (w .passed))
 
   module _ (h : n < length xs) where
-    pub passing-more : test (getD xs n 0) ≡ true → Passing test xs (n + 1)
+    pub passing-more : test (getD xs n 0) ≡ true → PassSoFar test xs (n + 1)
     passing-more next = record { passed = rw (add-one, take-suc xs n 0 h, allOf-append test (take n xs) (getD xs n 0 ∷ []), w .passed, next) }
 
     pub passing-fails : test (getD xs n 0) ≡ false → false ≡ allOf test xs
@@ -119,14 +119,8 @@ module _ {f : ℕ → List ℕ} {xs : List ℕ} {n total : ℕ} (w : Counted f x
 
 -- ---- the numbers below m, each with its piece
 
-from-place : (a m n : ℕ) → n < m → getD (from a m) n 0 ≡ a + n
-unfolding from
-from-place a zero n h = absurd (omega arith)
-from-place a (suc m) zero h = let same : a ≡ a + 0 = omega arith in same
-from-place a (suc m) (suc n) h = from-place (suc a) m n (omega arith) ∙ (let same : suc a + n ≡ a + suc n = omega arith in same)
-
 pub from-at : (m n : ℕ) → n < m → getD (from 0 m) n 0 ≡ n
-from-at m n h = from-place 0 m n h ∙ zero-add n
+from-at m n h = getD-from 0 m n h ∙ zero-add n
 
 module _ {f : ℕ → List ℕ} {m : ℕ} {a : List ℕ} {i n : ℕ} {b : List ℕ} {j : ℕ} (w : Pieces f (from 0 m) a i n b j) where
   pub below-all : m ≤ n → Put a i (flatMap f (from 0 m)) b j

@@ -2,8 +2,8 @@
 -- Assumes nothing.
 use mathlib.Core.Path.{_≡_, refl, sym, _∙_, ap, subst}
 use mathlib.Core.Logic.{_↔_, by-cases, ⊎-elim}
-use mathlib.Core.Bool.{Bool, true, false, cond, _&&_, _||_}
-use mathlib.Core.List.{List, [], _∷_, _++_, map, map-append, List·Memᴰ, List·Memᴰ·head, List·Memᴰ·tail, List·Memᴰ·cases-cons, List·Memᴰ·append-cases, List·Memᴰ·eq-of-singleton, List·Memᴰ·not-nil, Memᴰ·cast, Memᴰ·append-right}
+use mathlib.Core.Bool.{Bool, true, false, cond, _||_}
+use mathlib.Core.List.{List, [], _∷_, _++_, map, map-append, List·Memᴰ, List·Memᴰ·head, List·Memᴰ·cases-cons, List·Memᴰ·append-cases, List·Memᴰ·eq-of-singleton, List·Memᴰ·not-nil, Memᴰ·cast, Memᴰ·append-right}
 use mathlib.Core.Option.{Option, none, some}
 use Prim.Native.Nat.{ℕ, zero, suc, _+_, _*_, _≤_, _<_, zero-le}
 use native.Mathlib.Nat.{mul-zero, not-suc-le-zero}
@@ -12,7 +12,7 @@ use native.Mathlib.Decide.{ℕ-discrete}
 use native.Mathlib.Omega.{arith}
 use borrow.Author.Tests.{eq-eqb, ne-eqb, lt-ltb}
 use lib.Dec.{T, eqb, ltb, eqb→eq}
-use lib.ListN.{length, getD, take, drop, set, replicate, length-set}
+use lib.ListN.{length, getD, take, drop, set, length-set}
 use lib.Seq.{take-suc, take-all, split-at, getD-set-same, getD-set-other}
 use Rattle.finite.specs.First.{_orElse_}
 use Rattle.finite.proofs.Tests.{T-and, T-eqb, eqb-sym}
@@ -22,7 +22,6 @@ use Rattle.order.specs.Grammar.{readOrder}
 use Rattle.order.specs.Places.{ingredientAt}
 use Rattle.order.specs.declared.Located.{Located}
 use Rattle.order.specs.declared.Located.the-variants.{Table as TableAt, Matrix as MatrixAt, Generator as GeneratorAt, Missing as NothingAt}
-use Rattle.order.proofs.OrderLaw.{reads-iff}
 use Rattle.sheets.specs.Lists.{Distinct, allOf, allDifferent}
 use Rattle.sheets.specs.Sum.{modulusOf, serving}
 use Rattle.sheets.proofs.Lists.{allOf-mem, allDifferent-distinct, distinct-append, mem-member, member-mem}
@@ -30,15 +29,13 @@ use Rattle.ingredients.specs.Standing.{MatrixStands}
 use Rattle.ingredients.proofs.Standing.{matrix-stands}
 use Rattle.construction.specs.Bytes.{zeros}
 use Rattle.construction.specs.Carry.{Readable}
-use Rattle.construction.specs.Summing.{matrixPlace, matrixIn, matrixAt, matricesAt, fitTogether, matrixFrom, EntriesStand, Serves}
-use Rattle.construction.specs.declared.sum.MatrixPlace.{MatrixPlace}
+use Rattle.construction.specs.Summing.{matrixPlace, matrixIn, matrixAt, matricesAt, fitTogether, matrixFrom, Serves}
+use Rattle.construction.specs.declared.sum_matrices.MatrixPlace.{MatrixPlace}
+use Rattle.construction.proofs.Sheets.{zero-at}
 
 -- ---- a matrix that is found stands in the list
 
 module _ (list : List ℕ) (readable : Readable list) where
-  pub list-short : length list ≤ 32768
-  list-short = reads-iff list (readable .order) .0 (readable .reads) .0
-
   numbered : (d : ℕ) {rows columns p start : ℕ} → ingredientAt (readOrder list) d ≡ MatrixAt rows columns p start → 1 ≤ d
   unfolding ingredientAt
   numbered zero e = let missing = rw (readable .reads) at e in absurd (let z : _≡_ {A = ℕ} 0 1 = cc in omega arith)
@@ -102,11 +99,6 @@ serves-member {list} {Ds} {rows} {entries} {widths} w s =
 
 -- ---- no matrix yet
 
-zeros-at : (n s : ℕ) → getD (zeros n) s 0 ≡ 0
-zeros-at zero s = refl
-zeros-at (suc n) zero = refl
-zeros-at (suc n) (suc s) = zeros-at n s
-
 serves-none : (list : List ℕ) (rows : ℕ) → Serves list [] rows (zeros 65) (zeros 65)
 unfolding serving matrixFrom
 serves-none list rows =
@@ -115,10 +107,10 @@ serves-none list rows =
           record {
             entries-full = refl;
             widths-full = refl;
-            within = λ s. rw (zeros-at 65 s, mul-zero rows) (omega arith);
-            below = λ s q h. absurd (not-suc-le-zero (rw (zeros-at 65 s, mul-zero rows) at h));
+            within = λ s. rw (zero-at 65 s, mul-zero rows) (omega arith);
+            below = λ s q h. absurd (not-suc-le-zero (rw (zero-at 65 s, mul-zero rows) at h));
           };
-      serves = λ s. rw (zeros-at 65 s);
+      serves = λ s. rw (zero-at 65 s);
     }
 
 -- ---- one more matrix
@@ -189,17 +181,17 @@ fitting-decides rows Ds =
           ),
     )
 
-holds : (b : Bool) → T b → true ≡ b
-holds true t = refl
-holds false t = absurd t
+pub true-is : (b : Bool) → T b → true ≡ b
+true-is true t = refl
+true-is false t = absurd t
 
-fails : (b : Bool) → (T b → ⊥) → false ≡ b
-fails true n = absurd (n tt)
-fails false n = refl
+pub false-is : (b : Bool) → (T b → ⊥) → false ≡ b
+false-is true n = absurd (n tt)
+false-is false n = refl
 
 -- a refusal promises nothing of the arrays
-pub not-true : {P : Type 0} → false ≡ true → P
-not-true e = absurd (let z : _≡_ {A = ℕ} 0 1 = cc in omega arith)
+pub untrue : {P : Type 0} → false ≡ true → P
+untrue e = absurd (let z : _≡_ {A = ℕ} 0 1 = cc in omega arith)
 
 -- an element that stands twice
 distinct-twice : (xs ys : List ℕ) (x : ℕ) → List·Memᴰ x xs → Distinct (xs ++ x ∷ ys) → ⊥
@@ -230,7 +222,7 @@ module _ {list numbers : List ℕ} {rows i : ℕ} {entries widths : List ℕ} (w
   pub so-far-all : length numbers ≤ i → (true ≡ fitTogether rows (matricesAt list numbers)) × Serves list (matricesAt list numbers) rows entries widths
   so-far-all h =
       let all = take-all i numbers h in (
-        holds (fitTogether rows (matricesAt list numbers)) (fitting-decides rows (matricesAt list numbers) .1 (rw all at (w .fitting))),
+        true-is (fitTogether rows (matricesAt list numbers)) (fitting-decides rows (matricesAt list numbers) .1 (rw all at (w .fitting))),
         rw all at (w .serves),
       )
 
@@ -257,7 +249,7 @@ module _ {list numbers : List ℕ} {rows i : ℕ} {entries widths : List ℕ} (w
     pub rows-differ : (m .rows ≡ rows → ⊥) → false ≡ fitTogether rows (matricesAt list numbers)
     unfolding matrixIn matrixOf
     rows-differ n =
-        fails (fitTogether rows (matricesAt list numbers)) λ t.
+        false-is (fitTogether rows (matricesAt list numbers)) λ t.
         let f = fitting-decides rows (matricesAt list numbers) .0 t in
         n (f .equal (matrixIn list m) (rw whole (Memᴰ·append-right before (List·Memᴰ·head refl))))
 
@@ -265,7 +257,7 @@ module _ {list numbers : List ℕ} {rows i : ℕ} {entries widths : List ℕ} (w
     pub p-again : (getD widths (m .p) 0 ≡ 0 → ⊥) → false ≡ fitTogether rows (matricesAt list numbers)
     unfolding matrixIn matrixOf before
     p-again n =
-        fails (fitTogether rows (matricesAt list numbers)) λ t.
+        false-is (fitTogether rows (matricesAt list numbers)) λ t.
         let f = fitting-decides rows (matricesAt list numbers) .0 t in
         let served : T (member (m .p) (map modulusOf before)) = rw (serves-member (w .serves) (m .p), lt-ltb 0 (getD widths (m .p) 0) (omega arith)) tt in
         distinct-twice (map modulusOf before) (map modulusOf (matricesAt list (drop (suc i) numbers))) (m .p)

@@ -28,7 +28,7 @@ unfolding padded
 padded-length n xs h =
     length-append xs (zeros (n - length xs)) ∙ omega (arith, length-replicate {A = ℕ} (n - length xs) 0)
 
-zero-at : (n k : ℕ) → getD (zeros n) k 0 ≡ 0
+pub zero-at : (n k : ℕ) → getD (zeros n) k 0 ≡ 0
 zero-at n k = by-cases (decLt k n) (λ h. getD-replicate n k 0 0 h) (λ h. List·getD-eq-default (zeros n) 0 {n = k} (omega (arith, length-replicate {A = ℕ} n 0)))
 
 pub padded-at : (n : ℕ) (xs : List ℕ) (k : ℕ) → getD (padded n xs) k 0 ≡ getD xs k 0

@@ -3,7 +3,7 @@
 use mathlib.Core.Path.{_≡_, refl, sym, _∙_, ap, ap₂, fun-ext}
 use mathlib.Core.Bool.{Bool, true, false, _&&_, and-false}
 use mathlib.Core.List.{List, [], _∷_, _++_, map, flatMap, map-map, map-append}
-use mathlib.Core.Option.{Option, none, some}
+use mathlib.Core.Option.{Option, some}
 use Prim.Native.Nat.{ℕ, zero, suc, _+_, _*_, _/_, _%_, _≤_, _<_}
 use native.Mathlib.Omega.{arith}
 use borrow.Author.Tests.{eq-eqb, eqb-true}
@@ -14,9 +14,9 @@ use lib.Seq.{getD-take, getD-drop}
 use Rattle.galois.specs.Arithmetic.{member}
 use Rattle.counting.specs.Generator.{from}
 use Rattle.counting.specs.Matrix.{Matrix, matrixOf}
-use Rattle.counting.specs.Table.{Table, columns, levelsOf, tableOf}
+use Rattle.counting.specs.Table.{Table, columns, tableOf}
 use Rattle.counting.proofs.Fits.{run-end}
-use Rattle.sheets.specs.Lists.{allOf, allDifferent}
+use Rattle.sheets.specs.Lists.{allOf}
 use Rattle.sheets.specs.Sheet.{fromSources}
 use Rattle.sheets.specs.Sum.{levelSum, modulusOf, rowsOf, adjoinedTable, SumSource, adjoined, summedWith, sumPlace, sumSources, sumLevels, sumEntry, sumValue, sumStep, sumFits}
 use Rattle.sheets.specs.Steps.{sum, fits, wrongMember, applied, sized, afterSums, operate}
@@ -30,10 +30,11 @@ use Rattle.ingredients.specs.declared.named.NamedTable.the-variants.{Own, House
 use Rattle.ingredients.proofs.Parts.{part-length, part-at}
 use Rattle.construction.specs.Bytes.{runOf, runsOf}
 use Rattle.construction.specs.Carry.{Left}
-use Rattle.construction.specs.Summing.{matrixAt, matricesAt, fitTogether, matrixFrom, Serves, isMissing, Adjoins, summedLevels, servedRow, summedCells, summedRun, builtRun, builtSheet}
+use Rattle.construction.specs.Summing.{matrixAt, matricesAt, fitTogether, partsFit, matrixFrom, Serves, isMissing, Adjoins, summedLevels, servedRow, summedCells, summedRun, builtRun, builtSheet}
 use Rattle.construction.proofs.Bytes.{map-below, flatMap-same, runs-sources}
+use Rattle.construction.proofs.MergeRows.{map-flatMap}
 use Rattle.construction.proofs.Sums.{row-below}
-use Rattle.construction.proofs.Serving.{not-true, serves-member}
+use Rattle.construction.proofs.Serving.{untrue, serves-member}
 use Rattle.construction.proofs.SumSheet.{flatMap-places, built-runs, left-same}
 
 -- ---- lists
@@ -42,11 +43,6 @@ const-from : (s a n : ℕ) → map (λ (c : ℕ). s) (from a n) ≡ replicate n 
 unfolding from
 const-from s a zero = refl
 const-from s a (suc n) = ap (λ (xs : List ℕ). s ∷ xs) (const-from s (suc a) n)
-
-map-flatMap : {A B C : Type 0} (f : B → C) (g : A → List B) (xs : List A) → map f (flatMap g xs) ≡ flatMap (λ x. map f (g x)) xs
-unfolding flatMap
-map-flatMap f g [] = refl
-map-flatMap f g (x ∷ xs) = map-append f (g x) (flatMap g xs) ∙ ap (λ ys. map f (g x) ++ ys) (map-flatMap f g xs)
 
 -- ---- the columns in the place of one sheet column
 
@@ -146,15 +142,15 @@ adjoined-same list entries widths rows Missing table levels runs = refl
 
 pub adjoins-missing : (list : List ℕ) (t : NamedTable) (rows : ℕ) → isMissing t ≡ true → true ≡ eqb (adjoinedTable rows (someTable list t) .runs) rows
 unfolding isMissing adjoinedTable someTable
-adjoins-missing list (Own n k levelsAt entriesAt) rows e = not-true e
-adjoins-missing list (House number) rows e = not-true e
+adjoins-missing list (Own n k levelsAt entriesAt) rows e = untrue e
+adjoins-missing list (House number) rows e = untrue e
 adjoins-missing list Missing rows e = sym (eq-eqb rows rows refl)
 
 pub adjoins-table : (list : List ℕ) (t : NamedTable) (rows : ℕ) → isMissing t ≡ false → tableIn list t ≡ adjoinedTable rows (someTable list t)
 unfolding isMissing adjoinedTable someTable
 adjoins-table list (Own n k levelsAt entriesAt) rows e = refl
 adjoins-table list (House number) rows e = refl
-adjoins-table list Missing rows e = not-true (sym e)
+adjoins-table list Missing rows e = untrue (sym e)
 
 -- k of M runs, where it has any columns
 pub adjoins-rows : (list : List ℕ) (t : NamedTable) (rows : ℕ) → eqb (adjoinedTable rows (someTable list t) .runs) rows ≡ true → Adjoins (tableIn list t) rows
@@ -163,38 +159,48 @@ adjoins-rows list (Own n k levelsAt entriesAt) rows e = λ some. eqb-true _ rows
 adjoins-rows list (House number) rows e = λ some. eqb-true _ rows e
 adjoins-rows list Missing rows e = λ some. absurd (omega arith)
 
--- question 6, part by part
-fits-parts : (Ds : List Matrix) (K S : Table) (rows : ℕ) → rowsOf Ds ≡ rows
-    → sumFits Ds K S ≡ (fitTogether rows Ds && allOf (λ s. member s (map modulusOf Ds)) (S .levels) && eqb (K .runs) rows)
-unfolding sumFits fitTogether
-fits-parts Ds K S rows e = rw e
+-- ---- question 6
 
-module _ (Ds : List Matrix) (k : Option Table) (S : Table) (rows : ℕ) (e : rowsOf Ds ≡ rows) (n : ℕ) (table levels : List ℕ) where
-  -- a No
-  misfit : sumFits Ds (adjoinedTable rows k) S ≡ false → Left (operate n S (sum Ds k)) (Refused (PartsDoNotFit n)) table levels
-  unfolding operate fits Left
-  misfit fails = rw (e, fails)
-
-  pub matrices-misfit : false ≡ fitTogether rows Ds → Left (operate n S (sum Ds k)) (Refused (PartsDoNotFit n)) table levels
-  matrices-misfit fails = misfit (fits-parts Ds (adjoinedTable rows k) S rows e ∙ rw (← fails))
+-- part by part
+module _ (rows : ℕ) (Ds : List Matrix) (K : Table) (levels : List ℕ) where
+  pub matrices-misfit : false ≡ fitTogether rows Ds → false ≡ partsFit rows Ds K levels
+  unfolding partsFit
+  matrices-misfit fails = rw (← fails)
 
   module _ {list entries widths : List ℕ} (w : Serves list Ds rows entries widths) where
-    served-same : allOf (λ s. member s (map modulusOf Ds)) (S .levels) ≡ allOf (λ s. ltb 0 (getD widths s 0)) (S .levels)
-    served-same = ap (λ (test : ℕ → Bool). allOf test (S .levels)) (fun-ext (serves-member w))
+    served-same : allOf (λ s. member s (map modulusOf Ds)) levels ≡ allOf (λ s. ltb 0 (getD widths s 0)) levels
+    served-same = ap (λ (test : ℕ → Bool). allOf test levels) (fun-ext (serves-member w))
 
-    pub levels-misfit : false ≡ allOf (λ s. ltb 0 (getD widths s 0)) (S .levels) → Left (operate n S (sum Ds k)) (Refused (PartsDoNotFit n)) table levels
-    levels-misfit fails = misfit (fits-parts Ds (adjoinedTable rows k) S rows e ∙ rw (served-same ∙ sym fails, and-false))
+    pub levels-misfit : false ≡ allOf (λ s. ltb 0 (getD widths s 0)) levels → false ≡ partsFit rows Ds K levels
+    unfolding partsFit
+    levels-misfit fails = rw (served-same ∙ sym fails, and-false) refl
 
-    pub adjoined-misfit : false ≡ eqb (adjoinedTable rows k .runs) rows → Left (operate n S (sum Ds k)) (Refused (PartsDoNotFit n)) table levels
-    adjoined-misfit fails = misfit (fits-parts Ds (adjoinedTable rows k) S rows e ∙ rw (← fails, and-false))
+    pub adjoined-decides : {b : Bool} → true ≡ fitTogether rows Ds → true ≡ allOf (λ s. ltb 0 (getD widths s 0)) levels → b ≡ eqb (K .runs) rows
+        → b ≡ partsFit rows Ds K levels
+    unfolding partsFit
+    adjoined-decides one two last = rw (← one, served-same ∙ sym two) last
 
-    -- three times Yes
-    pub all-fit : (answer : Answer) → true ≡ fitTogether rows Ds → true ≡ allOf (λ s. ltb 0 (getD widths s 0)) (S .levels) → true ≡ eqb (adjoinedTable rows k .runs) rows
-        → Left (sized n (sumStep levelSum Ds (adjoinedTable rows k) S)) answer table levels → Left (operate n S (sum Ds k)) answer table levels
-    unfolding operate fits applied wrongMember afterSums
-    all-fit answer one two three left =
-        let holds : sumFits Ds (adjoinedTable rows k) S ≡ true = fits-parts Ds (adjoinedTable rows k) S rows e ∙ rw (← one, served-same ∙ sym two, ← three) in
-        rw (e, holds) left
+  pub adjoined-fits : partsFit rows Ds K levels ≡ true → eqb (K .runs) rows ≡ true
+  unfolding partsFit
+  adjoined-fits holds = right-true (fitTogether rows Ds && allOf (λ s. member s (map modulusOf Ds)) levels) holds
+    where
+      right-true : (a : Bool) → (a && eqb (K .runs) rows) ≡ true → eqb (K .runs) rows ≡ true
+      right-true true e = e
+      right-true false e = untrue e
+
+module _ (Ds : List Matrix) (k : Option Table) (S : Table) (rows : ℕ) (e : rowsOf Ds ≡ rows) (n : ℕ) (table levels : List ℕ) where
+  same-test : sumFits Ds (adjoinedTable rows k) S ≡ partsFit rows Ds (adjoinedTable rows k) (S .levels)
+  unfolding sumFits partsFit fitTogether
+  same-test = rw e
+
+  pub left-misfit : false ≡ partsFit rows Ds (adjoinedTable rows k) (S .levels) → Left (operate n S (sum Ds k)) (Refused (PartsDoNotFit n)) table levels
+  unfolding operate fits Left
+  left-misfit fails = rw (e, same-test ∙ sym fails) refl
+
+  pub left-fits : (answer : Answer) → true ≡ partsFit rows Ds (adjoinedTable rows k) (S .levels)
+      → Left (sized n (sumStep levelSum Ds (adjoinedTable rows k) S)) answer table levels → Left (operate n S (sum Ds k)) answer table levels
+  unfolding operate fits applied wrongMember afterSums
+  left-fits answer holds left = rw (e, same-test ∙ sym holds) left
 
 -- ---- the sheet that is built and the definition's are left alike
 

@@ -1,6 +1,6 @@
 -- Question 5 of SUM: where its operands stand, and what the numbers among them name.
 -- Assumes nothing.
-use mathlib.Core.Path.{_≡_, refl, sym, _∙_, ap, subst}
+use mathlib.Core.Path.{_≡_, refl, sym, _∙_, ap}
 use mathlib.Core.Logic.{_⊎_, ⊎-elim}
 use mathlib.Core.Bool.{Bool, true, false, cond, _&&_}
 use mathlib.Core.List.{List, [], _∷_, _++_}
@@ -9,21 +9,18 @@ use Prim.Native.Nat.{ℕ, zero, suc, _+_, _≤_, _<_}
 use native.Mathlib.Nat.{le-of-lt}
 use native.Mathlib.Omega.{arith}
 use borrow.Author.Tests.{lt-ltb, ltb-true}
-use lib.Dec.{eqb, leb, ltb}
-use lib.ListN.{length, getD, take, drop, getElem?, length-append}
+use lib.Dec.{ltb}
+use lib.ListN.{length, getD, take, drop, length-append}
 use Rattle.counting.specs.Matrix.{Matrix, matrixOf}
 use Rattle.counting.specs.Table.{Table, columns}
-use Rattle.order.specs.Order.{Step, SUM, Order, All, Between, IngredientNumber}
+use Rattle.order.specs.Order.{SUM, All, Between, IngredientNumber}
 use Rattle.order.specs.Grammar.{readOrder}
-use Rattle.order.specs.Places.{ingredientAt, stepAt, operandsOf, stepIn}
+use Rattle.order.specs.Places.{ingredientAt}
 use Rattle.order.specs.declared.Located.{Located}
 use Rattle.order.specs.declared.Located.the-variants.{Table as TableAt, Matrix as MatrixAt, Generator as GeneratorAt, Missing as NothingAt}
-use Rattle.order.specs.declared.Placed.{Placed}
-use Rattle.order.specs.declared.Placed.the-variants.{Step as StepAt}
-use Rattle.order.proofs.Segment.{Segment, part-left, part-right, number-is, segment-fits}
-use Rattle.order.proofs.Stands.{step-stands, step-described}
+use Rattle.order.proofs.Segment.{part-left, part-right, number-is, segment-fits}
 use Rattle.sheets.specs.Lists.{allOf}
-use Rattle.sheets.specs.Ingredients.{matrixNamed, matricesNamed, tableNamed, adjoinedNamed}
+use Rattle.sheets.specs.Ingredients.{matrixNamed, matricesNamed, adjoinedNamed}
 use Rattle.sheets.specs.Steps.{Outcome, sum, provided, operation, operate, laterStep}
 use Rattle.sheets.specs.declared.answer.Refusal.the-variants.{StepNotAllowed}
 use Rattle.sheets.specs.declared.answer.Answer.{Answer}
@@ -36,7 +33,8 @@ use Rattle.ingredients.proofs.Standing.{matrix-stands}
 use Rattle.ingredients.proofs.NamedLaws.{table-named, matrix-named, named-legible, named-limits}
 use Rattle.construction.specs.Carry.{Readable, Stands, laterIn, Left}
 use Rattle.construction.specs.Summing.{matrixPlace, matrixIn, matrixAt, matricesAt, isMissing}
-use Rattle.construction.proofs.Serving.{not-true}
+use Rattle.construction.proofs.Operands.{operands-stand, later-in}
+use Rattle.construction.proofs.Serving.{untrue}
 
 -- ---- the operands
 
@@ -47,9 +45,8 @@ matrixNumbers list at = take (getD list at 0) (drop (at + 1) list)
 abbrev pub adjoinedNumber : List ℕ → ℕ → ℕ
 adjoinedNumber list at = getD list (at + 1 + getD list at 0) 0
 
-pub record Operands (list : List ℕ) (at : ℕ) : Type 0 where
+pub record SumOperands (list : List ℕ) (at : ℕ) : Type 0 where
   pub some-matrices : 1 ≤ getD list at 0
-  pub few-matrices : getD list at 0 ≤ 16
   pub within : at + 1 + getD list at 0 < length list
   pub numbered : All (λ d. 1 ≤ d) (matrixNumbers list at)
 
@@ -57,32 +54,21 @@ all-numbered : (ds : List ℕ) → All IngredientNumber ds → All (λ d. 1 ≤ 
 all-numbered [] all = tt
 all-numbered (d ∷ ds) all = (⊎-elim (λ (h : Between 1 32 d). h .0) (λ (h : Between 101 104 d). omega (arith, h .0)) (all .0), all-numbered ds (all .1))
 
-module _ {list : List ℕ} (readable : Readable list) where
-  operands-at : (at n : ℕ) → stepAt (readOrder list) n ≡ StepAt 3 at → Operands list at
-  unfolding stepAt
-  operands-at at zero found = let missing = rw (readable .reads) at found in absurd (let z : _≡_ {A = ℕ} 0 1 = cc in omega arith)
-  operands-at at (suc k) found =
-      let ds = matrixNumbers list at in
-      let last = adjoinedNumber list at in
-      let here : getElem? (readable .order .steps) k ≡ some (SUM ds last) =
-      sym (step-described list (readable .order) (readable .reads) k) ∙ ap (stepIn list) found
-      in
-      step-stands list (readable .order) (readable .reads) k (SUM ds last) here λ place after same limits s.
-      let there : at ≡ place + 1 = let e : StepAt 3 at ≡ StepAt 3 (place + 1) = sym found ∙ same in cc in
-      let fits = segment-fits s (omega arith) in
-      let operands = part-right (3 ∷ []) (length ds ∷ ds ++ last ∷ []) s in
-      let many : getD list at 0 ≡ length ds = ap (λ (q : ℕ). getD list q 0) there ∙ number-is (part-left (length ds ∷ []) (ds ++ last ∷ []) operands) in
-      record {
-        some-matrices = rw many (limits .0 .0);
-        few-matrices = rw many (limits .0 .1);
-        within = omega (arith, many, there, length-append ds (last ∷ []));
-        numbered = all-numbered ds (limits .1);
-      }
+pub operands-known : {list : List ℕ} → Readable list → {at : ℕ} → Stands list 3 at → SumOperands list at
+operands-known {list} readable {at} stands =
+    operands-stand readable 3 at stands λ place after there limits s.
+    let ds = matrixNumbers list at in
+    let last = adjoinedNumber list at in
+    let fits = segment-fits s (omega arith) in
+    let operands = part-right (3 ∷ []) (length ds ∷ ds ++ last ∷ []) s in
+    let many : getD list at 0 ≡ length ds = ap (λ (q : ℕ). getD list q 0) there ∙ number-is (part-left (length ds ∷ []) (ds ++ last ∷ []) operands) in
+    record {
+      some-matrices = rw many (limits .0 .0);
+      within = omega (arith, many, there, length-append ds (last ∷ []));
+      numbered = all-numbered ds (limits .1);
+    }
 
-  pub operands-stand : {at : ℕ} → Stands list 3 at → Operands list at
-  operands-stand {at} stands = operands-at at (stands .number) (stands .found)
-
-pub numbers-many : {list : List ℕ} {at : ℕ} → Operands list at → 0 < length (matrixNumbers list at)
+pub numbers-many : {list : List ℕ} {at : ℕ} → SumOperands list at → 0 < length (matrixNumbers list at)
 numbers-many {list} {at} stand = rw (part-length list (at + 1) (getD list at 0) (le-of-lt (stand .within))) (stand .some-matrices)
 
 -- ---- what the numbers name
@@ -128,12 +114,12 @@ module _ {list : List ℕ} (readable : Readable list) where
   unfolding isMissing someTable
   found-table (Own rows k levelsAt entriesAt) e = refl
   found-table (House number) e = refl
-  found-table Missing e = not-true (sym e)
+  found-table Missing e = untrue (sym e)
 
   missing-table : (t : NamedTable) → isMissing t ≡ true → _≡_ {A = Option (Option Table)} (Option·map some (someTable list t)) none
   unfolding isMissing someTable
-  missing-table (Own rows k levelsAt entriesAt) e = not-true e
-  missing-table (House number) e = not-true e
+  missing-table (Own rows k levelsAt entriesAt) e = untrue e
+  missing-table (House number) e = untrue e
   missing-table Missing e = refl
 
   pub adjoined-missing : (k : ℕ) → (k ≡ 0 → ⊥) → isMissing (namedTable (readOrder list) k) ≡ true → adjoinedNamed (readable .order) k ≡ none
@@ -169,7 +155,7 @@ first-named list (d ∷ ds) h e = ltb-true 0 (matrixAt list d .rows) (left-true 
   where
     left-true : (a b : Bool) → (a && b) ≡ true → a ≡ true
     left-true true b g = refl
-    left-true false b g = not-true g
+    left-true false b g = untrue g
 
 -- ---- the questions that follow
 
@@ -178,24 +164,24 @@ module _ {list : List ℕ} (readable : Readable list) (at n : ℕ) (S : Table) (
   later = provided (operation (readable .order) (SUM (matrixNumbers list at) (adjoinedNumber list at))) (StepNotAllowed n) (operate n S)
 
   later-is : laterIn list n S 3 at ≡ later
-  unfolding laterIn laterStep later
-  later-is = rw (readable .reads)
+  unfolding laterStep later
+  later-is = later-in readable 3 at n S
 
   -- not every number names a matrix
-  pub left-unnamed : Operands list at → false ≡ allOf (λ d. ltb 0 (matrixAt list d .rows)) (matrixNumbers list at)
+  pub left-unnamed : SumOperands list at → false ≡ allOf (λ d. ltb 0 (matrixAt list d .rows)) (matrixNumbers list at)
       → Left (laterIn list n S 3 at) (Refused (StepNotAllowed n)) table levels
   unfolding later operation provided bind Left
   left-unnamed stand fails = rw (later-is, all-named readable (matrixNumbers list at) (stand .numbered), ← fails) refl
 
   -- k names no table
-  pub left-unadjoined : Operands list at → true ≡ allOf (λ d. ltb 0 (matrixAt list d .rows)) (matrixNumbers list at)
+  pub left-unadjoined : SumOperands list at → true ≡ allOf (λ d. ltb 0 (matrixAt list d .rows)) (matrixNumbers list at)
       → adjoinedNamed (readable .order) (adjoinedNumber list at) ≡ none
       → Left (laterIn list n S 3 at) (Refused (StepNotAllowed n)) table levels
   unfolding later operation provided bind Left
   left-unadjoined stand holds missing = rw (later-is, all-named readable (matrixNumbers list at) (stand .numbered), ← holds, missing) refl
 
   -- all are there
-  pub left-named : Operands list at → true ≡ allOf (λ d. ltb 0 (matrixAt list d .rows)) (matrixNumbers list at)
+  pub left-named : SumOperands list at → true ≡ allOf (λ d. ltb 0 (matrixAt list d .rows)) (matrixNumbers list at)
       → (k : Option Table) → adjoinedNamed (readable .order) (adjoinedNumber list at) ≡ some k
       → (answer : Answer) → Left (operate n S (sum (matricesAt list (matrixNumbers list at)) k)) answer table levels → Left (laterIn list n S 3 at) answer table levels
   unfolding later operation provided bind

@@ -3,19 +3,18 @@
 use mathlib.Core.Path.{_≡_, refl, sym, _∙_, ap, ap₂}
 use mathlib.Core.Logic.{_⊎_, ⊎-elim}
 use mathlib.Core.Bool.{Bool, true, false, cond, _&&_}
-use mathlib.Core.List.{List, [], _∷_, _++_, map, flatMap, map-map}
-use Prim.Native.Nat.{ℕ, zero, suc, _+_, _*_, _/_, _%_, _≤_, _<_}
+use mathlib.Core.List.{List, [], _∷_, _++_, map, flatMap}
+use Prim.Native.Nat.{ℕ, _+_, _*_, _%_, _≤_, _<_}
 use native.Mathlib.Nat.{le-trans, zero-add}
 use native.Mathlib.Omega.{arith}
-use lib.Dec.{T, leb}
-use lib.ListN.{length, getD, take, drop, replicate, length-append, length-map, length-replicate}
+use lib.Dec.{leb}
+use lib.ListN.{length, getD, take, drop, replicate, length-append, length-replicate}
 use lib.Seq.{length-take-le}
-use Rattle.finite.specs.Sum.{sum}
 use Rattle.finite.proofs.Sums.{sum-ext}
 use Rattle.buffers.specs.Put.{Put}
-use Rattle.buffers.proofs.Puts.{put-front, put-length}
+use Rattle.buffers.proofs.Puts.{put-length}
 use Rattle.counting.specs.Generator.{from, AllBelow}
-use Rattle.counting.specs.Table.{Table, columns, levelsOf, tableOf}
+use Rattle.counting.specs.Table.{Table, columns, tableOf}
 use Rattle.sheets.specs.Sheet.{LevelsAtMost, SmallEnough, smallEnough}
 use Rattle.sheets.specs.Steps.{filled, refused, sized}
 use Rattle.sheets.specs.declared.answer.Refusal.the-variants.{TooLarge}
@@ -25,10 +24,11 @@ use Rattle.sheets.proofs.Lists.{map-getD, length-flatMap}
 use Rattle.sheets.proofs.StepQuestions.{size-decides}
 use Rattle.construction.specs.Bytes.{runOf, runsOf, padded, Holds, Zeros, sheetIn}
 use Rattle.construction.specs.Carry.{Ready, Left}
-use Rattle.construction.specs.Summing.{EntriesStand, summedLevels, servedRow, summedCells, summedRun, RowStands, SheetStands, builtRun, builtSheet}
+use Rattle.construction.specs.Summing.{EntriesStand, summedLevels, summedCells, summedRun, RowStands, SheetStands, builtRun, builtSheet}
 use Rattle.construction.specs.declared.size.Size.{Size}
 use Rattle.construction.proofs.Bytes.{flatMap-same, runs-length}
-use Rattle.construction.proofs.Sheets.{cells-few, built-after, ready-few, ready-runs, ready-used}
+use Rattle.construction.proofs.Sheets.{cells-few, built-after, ready-few, ready-used}
+use Rattle.construction.proofs.Serving.{true-is, false-is}
 use Rattle.construction.proofs.Sums.{row-below, row-stands, row-length, cells-length, built-length}
 
 -- ---- what the elements of a list give, place by place
@@ -87,10 +87,6 @@ sheet-stands {list} {size} {table} {levels} ready =
 
 -- ---- the sheet that is built takes its place
 
--- the bytes that were put from place 0 on, by their number
-pub put-taken : {a bytes b : List ℕ} {end : ℕ} → Put a 0 bytes b end → (n : ℕ) → n ≡ length bytes → take n b ≡ bytes
-put-taken {b = b} {end} put n e = ap (λ (k : ℕ). take k b) (let same : n ≡ end = omega (arith, put .ends) in same) ∙ put-front put
-
 module _ {list entries widths : List ℕ} {rows : ℕ} (K : Table) {size : Size} {table levels scratch after : List ℕ} {built : ℕ}
     (ready : Ready list size table levels scratch) (stand : EntriesStand list rows entries widths)
     (small : SmallEnough (builtSheet list entries widths rows K table (take (size .columns) levels) (size .runs)))
@@ -109,20 +105,12 @@ module _ {list entries widths : List ℕ} {rows : ℕ} (K : Table) {size : Size}
 
 -- ---- question 8
 
-true-of : (b : Bool) → T b → b ≡ true
-true-of true t = refl
-true-of false t = absurd t
-
-false-of : (b : Bool) → (T b → ⊥) → b ≡ false
-false-of true n = absurd (n tt)
-false-of false n = refl
-
 module _ (n : ℕ) (S : Table) (table levels : List ℕ) {runs many : ℕ} (e : runs ≡ S .runs) (f : many ≡ columns S) where
   pub left-small : runs ≤ 512 → many ≤ 128 → Holds S table levels → Left (sized n S) (Filled runs many) table levels
   unfolding sized Left
   left-small h k holds =
       let small : SmallEnough S = record { runs-most = rw (← e) h; columns-most = rw (← f) k } in
-      rw (true-of (smallEnough S) (size-decides S .1 small)) (ap₂ Filled e f, holds)
+      rw (← true-is (smallEnough S) (size-decides S .1 small)) (ap₂ Filled e f, holds)
 
   pub left-large : (512 < runs) ⊎ (128 < many) → Left (sized n S) (Refused (TooLarge n runs many)) table levels
   unfolding sized Left
@@ -130,7 +118,7 @@ module _ (n : ℕ) (S : Table) (table levels : List ℕ) {runs many : ℕ} (e : 
       let most : SmallEnough S → ⊥ =
       λ small. ⊎-elim (λ (h : 512 < runs). omega (arith, small .runs-most)) (λ (h : 128 < many). omega (arith, small .columns-most)) large
       in
-      rw (false-of (smallEnough S) (λ t. most (size-decides S .0 t))) (ap₂ (λ (x y : ℕ). Refused (TooLarge n x y)) e f)
+      rw (← false-is (smallEnough S) (λ t. most (size-decides S .0 t))) (ap₂ (λ (x y : ℕ). Refused (TooLarge n x y)) e f)
 
 module _ (list entries widths : List ℕ) (rows : ℕ) (K : Table) (table levels : List ℕ) (runs : ℕ) where
   pub built-columns : {summed adjoined : ℕ} → summed ≡ length (summedLevels widths levels) → adjoined ≡ columns K

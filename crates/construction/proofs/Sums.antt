@@ -1,6 +1,6 @@
 -- Laws of SUM on bytes: sums of levels, and what the arrays tell of the matrices that serve a level count.
 -- Assumes nothing.
-use mathlib.Core.Path.{_≡_, refl, sym, _∙_, ap}
+use mathlib.Core.Path.{_≡_, sym, _∙_, ap}
 use mathlib.Core.List.{List, [], _∷_}
 use Prim.Native.Nat.{ℕ, _+_, _*_, _-_, _/_, _%_, _≤_, _<_}
 use native.Mathlib.Nat.{mod-eq-of-lt, mod-eq-sub-mod, mod-lt, div-lt-iff-lt-mul, le-refl}
@@ -9,17 +9,15 @@ use lib.Arith.{digits-lt}
 use lib.ListN.{length, getD, take, drop, length-append, length-map, replicate, replicate-append-replicate}
 use Rattle.buffers.specs.Put.{Put}
 use Rattle.buffers.proofs.Puts.{put-join}
-use Rattle.counting.specs.Generator.{from, AllBelow}
+use Rattle.counting.specs.Generator.{AllBelow}
 use Rattle.counting.specs.Table.{Table, columns, tableOf, InRange}
-use Rattle.counting.proofs.Lists.{getD-map, length-from}
 use Rattle.counting.proofs.Fits.{run-end}
-use Rattle.ingredients.proofs.Parts.{part-length, part-at}
 use Rattle.sheets.specs.Sum.{levelSum}
 use Rattle.sheets.proofs.Sum.{factor-positive}
+use Rattle.ingredients.proofs.Parts.{part-length, part-at}
 use Rattle.construction.specs.Bytes.{runOf}
 use Rattle.construction.specs.Summing.{EntriesStand, servedRow, summedCells, summedRun, RowStands, RunStands, SheetStands, builtRun}
 use Rattle.construction.proofs.Bytes.{run-length}
-use Rattle.construction.proofs.Pieces.{from-at}
 
 -- ---- the sum of two levels
 
@@ -37,12 +35,6 @@ sum-large p a b ha hb h =
 
 pub put-again : {a b c : List ℕ} {i j k : ℕ} (n byte : ℕ) → Put a i (replicate n byte) b j → Put b j (byte ∷ []) c k → Put a i (replicate (n + 1) byte) c k
 put-again n byte p q = rw (replicate-append-replicate {A = ℕ} n 1 byte) at (put-join p q)
-
--- ---- a run of a table, cell by cell
-
-pub run-at : (K : Table) (y c : ℕ) → c < columns K → getD (runOf K y) c 0 ≡ K .cell y c
-unfolding runOf
-run-at K y c h = getD-map (K .cell y) (from 0 (columns K)) (rw (length-from 0 (columns K)) h) ∙ ap (K .cell y) (from-at (columns K) c h)
 
 -- ---- a row of the matrix that serves s
 

@@ -8,6 +8,7 @@ use mathlib.Core.Option.{Option, none, some}
 use Prim.Native.Nat.{ℕ, zero, suc, _+_, _*_, _/_, _%_, _≤_, _<_}
 use lib.Dec.{eqb}
 use lib.ListN.{length, getD, take, drop, replicate}
+use Rattle.galois.specs.Arithmetic.{member}
 use Rattle.counting.specs.Generator.{from, AllBelow}
 use Rattle.counting.specs.Matrix.{Matrix, matrixOf}
 use Rattle.counting.specs.Table.{Table, columns, tableOf, InRange}
@@ -22,7 +23,7 @@ use Rattle.ingredients.specs.declared.named.NamedTable.{NamedTable}
 use Rattle.ingredients.specs.declared.named.NamedTable.the-variants.{Own, House, Missing}
 use Rattle.construction.specs.Bytes.{runOf}
 use Rattle.construction.specs.declared.size.Size.{Size}
-use Rattle.construction.specs.declared.sum.MatrixPlace.{MatrixPlace}
+use Rattle.construction.specs.declared.sum_matrices.MatrixPlace.{MatrixPlace}
 
 -- the matrix that a look-up found, by its places in the list; any other ingredient is none
 unfoldable pub matrixPlace : Located → MatrixPlace
@@ -45,6 +46,10 @@ matricesAt list ds = map (matrixAt list) ds
 -- question 6, of the matrices alone: equal rows and different p
 unfoldable pub fitTogether : ℕ → List Matrix → Bool
 fitTogether rows Ds = allOf (λ D. eqb (D .rows) rows) Ds && allDifferent (map modulusOf Ds)
+
+-- question 6 whole, of the sheet's level counts: every level count served, and k of M runs
+unfoldable pub partsFit : ℕ → List Matrix → Table → List ℕ → Bool
+partsFit rows Ds K levels = fitTogether rows Ds && allOf (λ s. member s (map modulusOf Ds)) levels && eqb (K .runs) rows
 
 -- the matrix that has so many rows and columns and its entries from a place on, if it has any columns
 unfoldable pub matrixFrom : List ℕ → ℕ → ℕ → ℕ → ℕ → Option Matrix

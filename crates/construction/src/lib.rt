@@ -8,6 +8,8 @@ mod settle; // settle.rt: a sheet built in the scratch takes the place of the sh
 mod size; // size.rt: the size of the sheet in hand
 mod split; // split.rt: step 5
 mod sum; // sum.rt: step 3
+mod sum_matrices; // sum_matrices.rt: the matrices of step 3, by the level counts that they serve
+mod sum_sheet; // sum_sheet.rt: the sheet that step 3 leaves
 mod take; // take.rt: step 1
 
 ghost use mathlib.Core.Path.{_≡_};

@@ -12,7 +12,7 @@ use ingredients::named::level;
 use ingredients::named::level_count;
 use ingredients::named::run_count;
 
-// Puts the levels of a run.
+// Puts the levels of a run; of a table with no columns there are none, whatever the run.
 pub(crate) fn put_run(
     list: &[u16],
     table: NamedTable,
@@ -21,7 +21,7 @@ pub(crate) fn put_run(
     at: usize,
 ) -> usize
     requires { ⌜ Legible (now list) table ⌝ }
-    requires { ⌜ run < tableIn (now list) table .runs ⌝ }
+    requires { ⌜ (0 < columns (tableIn (now list) table) → run < tableIn (now list) table .runs) ⌝ }
     requires { ⌜ at + columns (tableIn (now list) table) ≤ length (now buf) ⌝ }
     ensures { λ r. ⌜ Put (now (buf .entry)) at (runOf (tableIn (now (list .entry)) table) run) (now (buf .exit)) r ⌝ }
 {

@@ -30,7 +30,8 @@ loop-holds c = (search needs, values-none _ (omega arith))
 level-requires : tie.Need-level-requires Inv-loop μ-loop
 level-requires c κs =
     let start = c .before .before .before .before .before .before in
-    (start .pre .0, (start .pre .1 .0, rw (c .before .before .before .column-count .ensures) at (c .before .loop-test .taken)))
+    let below = rw (c .before .before .before .column-count .ensures) at (c .before .loop-test .taken) in
+    (start .pre .0, (start .pre .1 .0 (omega (arith, below)), below))
 
 put-byte-requires : tie.Need-put-byte-requires Inv-loop μ-loop
 put-byte-requires c κs =

@@ -31,7 +31,7 @@ put-run-requires : tie.Need-put-run-requires Inv-loop μ-loop
 put-run-requires c κs =
     let start = c .before .before .before .before .before .before in
     let below = rw (c .before .before .before .run-count .ensures) at (c .before .loop-test .taken) in
-    (start .pre .0, (below, pieces-room _ _ _ _ (λ r h. run-length (tableIn (start .args .list .now) (start .args .table)) r) (c .before .before .loop .inv .1) below (start .pre .1)))
+    (start .pre .0, (λ some. below, pieces-room _ _ _ _ (λ r h. run-length (tableIn (start .args .list .now) (start .args .table)) r) (c .before .before .loop .inv .1) below (start .pre .1)))
 
 add-run : tie.Need-add-run Inv-loop μ-loop
 add-run c = omega arith

@@ -32,7 +32,7 @@ put-run-requires : tie.Need-put-run-requires
 put-run-requires c κs =
     let start = c .before .before .before .before .before .before .before .before .before .before in
     let first = c .before .before .before .put-bytes .ensures in
-    (start .pre .0, (start .pre .1 .0 .1, omega (arith, slice-aggregate-put-bytes (c .before .before .before .before), start .pre .1 .0 .0, start .pre .1 .1, put-length first, first .ends)))
+    (start .pre .0, (λ some. start .pre .1 .0 .1, omega (arith, slice-aggregate-put-bytes (c .before .before .before .before), start .pre .1 .0 .0, start .pre .1 .1, put-length first, first .ends)))
 
 add-put-bytes : tie.Need-add-put-bytes
 add-put-bytes c = search needs

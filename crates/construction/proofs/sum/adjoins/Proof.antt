@@ -1,15 +1,11 @@
 -- `construction::sum::adjoins` meets its contract: a table that is missing adjoins, and any other by its runs.
 use mathlib.Core.Path.{sym, _∙_, ap}
+use borrow.Author.Needs.{needs}
 use lib.Dec.{eqb}
 use Rattle.counting.specs.Table.{Table}
 use Rattle.construction.proofs.SumMeets.{adjoins-missing, adjoins-table}
-use borrow.Author.Needs.{needs}
 use Rattle.construction.proofs.sum.adjoins.Statement.{statement}
 use Rattle.construction.proofs.sum.adjoins.Tie as tie
-use Rattle.construction.proofs.sum.adjoins.Reads as reads
-use Rattle.construction.proofs.sum.adjoins.Lts as lts
-use Rattle.construction.proofs.sum.is_missing.Reads as is-missing-reads
-use Rattle.ingredients.proofs.named.run_count.Reads as run-count-reads
 
 is-missing-requires : tie.Need-is-missing-requires
 is-missing-requires c κs = search needs

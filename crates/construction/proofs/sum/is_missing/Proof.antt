@@ -1,11 +1,9 @@
 -- `construction::sum::is_missing` meets its contract: each arm is a clause of `isMissing`.
 use mathlib.Core.Path.{sym, ap}
-use Rattle.construction.specs.Summing.{isMissing}
 use borrow.Author.Needs.{needs}
+use Rattle.construction.specs.Summing.{isMissing}
 use Rattle.construction.proofs.sum.is_missing.Statement.{statement}
 use Rattle.construction.proofs.sum.is_missing.Tie as tie
-use Rattle.construction.proofs.sum.is_missing.Reads as reads
-use Rattle.construction.proofs.sum.is_missing.Lts as lts
 
 enum-told : tie.Need-enum-told
 enum-told c = search needs

@@ -1,29 +1,24 @@
 -- `construction::sum::sized_sum` meets its contract: question 8 asks for the sizes of the sheet that `build` then builds.
-use mathlib.Core.Path.{_≡_, refl, sym, _∙_}
+use mathlib.Core.Path.{_≡_, refl, sym}
 use mathlib.Core.Logic.{inl, inr, ⊎-elim}
-use Prim.Native.Nat.{_+_, _*_, _≤_}
+use Prim.Native.Nat.{_+_, _*_}
 use native.Mathlib.Nat.{mul-le-mul}
 use native.Mathlib.Omega.{arith}
 use borrow.Author.Tests.{ltb-true, ltb-false}
-use lib.ListN.{length, take}
+use borrow.Author.Needs.{needs}
+use lib.ListN.{take}
 use lib.Seq.{length-take-le}
 use Rattle.counting.specs.Table.{Table, columns as columnsOf}
 use Rattle.ingredients.specs.Named.{tableIn}
 use Rattle.construction.specs.Summing.{builtSheet, nextSheet}
 use Rattle.construction.proofs.Sheets.{ready-few, ready-runs}
 use Rattle.construction.proofs.SumSheet.{sheet-stands, left-small, left-large, built-columns}
-use borrow.Author.Needs.{needs}
 use Rattle.construction.proofs.sum.sized_sum.Statement.{statement}
 use Rattle.construction.proofs.sum.sized_sum.Tie as tie
-use Rattle.construction.proofs.sum.sized_sum.Reads as reads
-use Rattle.construction.proofs.sum.sized_sum.Lts as lts
-use Rattle.construction.proofs.sum.build.Reads as build-reads
-use Rattle.construction.proofs.sum.summed_columns.Reads as summed-columns-reads
-use Rattle.ingredients.proofs.named.column_count.Reads as column-count-reads
 
 -- the sheet that the step would leave
 abbrev next-of : tie.Start → Table
-next-of c = nextSheet (c .args .list .now) (c .args .entries .now) (c .args .widths .now) (c .args .rows) (c .args .adjoined) (c .args .size) (c .args .table .now) (c .args .levels .now)
+next-of c = nextSheet (c .args .list .now) (c .args .entries .now) (c .args .widths .now) (c .args .rows) (c .args .k) (c .args .size) (c .args .table .now) (c .args .levels .now)
 
 abbrev start-of : tie.After-column-count → tie.Start
 start-of c = c .before .before .before .before .before .before .before .before .before .before
@@ -32,7 +27,7 @@ start-of c = c .before .before .before .before .before .before .before .before .
 many : (c : tie.After-column-count) → c .before .summed-columns .result + c .column-count .result ≡ columnsOf (next-of (start-of c))
 many c =
     let a = start-of c .args in
-    built-columns (a .list .now) (a .entries .now) (a .widths .now) (a .rows) (tableIn (a .list .now) (a .adjoined)) (a .table .now) (take (a .size .columns) (a .levels .now)) (a .size .runs)
+    built-columns (a .list .now) (a .entries .now) (a .widths .now) (a .rows) (tableIn (a .list .now) (a .k)) (a .table .now) (take (a .size .columns) (a .levels .now)) (a .size .runs)
     (c .before .summed-columns .ensures .0) (c .column-count .ensures)
 
 runs-known : (c : tie.Start) → c .args .size .runs * c .args .rows ≡ next-of c .runs
@@ -82,8 +77,19 @@ build-requires : tie.Need-build-requires
 unfolding builtSheet
 build-requires c κs =
     let counted = c .before .before .before .before .before in
-    let start = start-of counted in
-    (start .pre .0, (start .pre .1 .0 .0, ((start .pre .1 .1 .0, start .pre .1 .1 .1), (record { runs-most = c .before .before .before .before .if1 .left; columns-most = rw (← many counted) (ltb-false _ _ (c .before .before .before .if2 .left)) }, many counted))))
+    let start = start-of counted in (
+      start .pre .0,
+      (
+        start .pre .1 .0 .0,
+        (
+          (start .pre .1 .1 .0, start .pre .1 .1 .1),
+          record {
+            runs-most = c .before .before .before .before .if1 .left;
+            columns-most = rw (← many counted) (ltb-false _ _ (c .before .before .before .if2 .left));
+          },
+        ),
+      ),
+    )
 
 same-length-2 : tie.Need-same-length-2
 same-length-2 c = search needs
@@ -99,7 +105,7 @@ returns-2 c =
     let counted = c .before .before .before .before .before .before .before .before .before .before .before .before in
     let start = start-of counted in
     let built = c .before .before .before .before .before .before .build in (
-      left-small (start .args .number) (next-of start) (built .last .1 .1 .1 .1 .1 .1 .1 .0) (built .last .1 .1 .1 .1 .1 .1 .1 .1 .0) (runs-known start) (many counted) (c .before .before .before .before .before .before .before .before .before .before .before .if1 .left) (ltb-false _ _ (c .before .before .before .before .before .before .before .before .before .before .if2 .left)) (built .ensures .0),
+      left-small (start .args .number) (next-of start) _ _ (runs-known start) (many counted) (c .before .before .before .before .before .before .before .before .before .before .before .if1 .left) (ltb-false _ _ (c .before .before .before .before .before .before .before .before .before .before .if2 .left)) (built .ensures .0),
       built .ensures .1,
     )
 

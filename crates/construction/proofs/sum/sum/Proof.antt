@@ -1,14 +1,15 @@
 -- `construction::sum::sum` meets its contract: question 5 of the matrices and of k, and then question 6.
-use mathlib.Core.Path.{_≡_, refl, sym, _∙_, ap}
+use mathlib.Core.Path.{_≡_, sym, _∙_, ap}
 use mathlib.Core.Logic.{_⊎_, inl, inr, ⊎-elim}
 use mathlib.Core.Bool.{true, false}
 use mathlib.Core.Option.{some}
-use Prim.Native.Nat.{_+_, _<_}
+use Prim.Native.Nat.{_+_}
 use native.Mathlib.Nat.{le-of-lt}
 use native.Mathlib.Omega.{arith}
 use borrow.Author.Tests.{not-true, not-false}
+use borrow.Author.Needs.{needs}
 use lib.Dec.{ltb}
-use lib.ListN.{length, getD, take, drop}
+use lib.ListN.{getD}
 use Rattle.counting.specs.Table.{Table}
 use Rattle.order.specs.Grammar.{readOrder}
 use Rattle.sheets.specs.Lists.{allOf}
@@ -16,19 +17,12 @@ use Rattle.ingredients.specs.Named.{namedTable, someTable}
 use Rattle.construction.specs.Bytes.{sheetIn}
 use Rattle.construction.specs.Summing.{matrixAt, isMissing}
 use Rattle.construction.proofs.Sums.{part-same}
-use Rattle.construction.proofs.SumNames.{Operands, matrixNumbers, adjoinedNumber, numbers-many, operands-stand, adjoined-missing, adjoined-found, named-known, first-named, left-unnamed, left-unadjoined, left-named}
-use borrow.Author.Needs.{needs}
+use Rattle.construction.proofs.SumNames.{SumOperands, matrixNumbers, adjoinedNumber, numbers-many, operands-known, adjoined-missing, adjoined-found, named-known, first-named, left-unnamed, left-unadjoined, left-named}
 use Rattle.construction.proofs.sum.sum.Statement.{statement}
 use Rattle.construction.proofs.sum.sum.Tie as tie
-use Rattle.construction.proofs.sum.sum.Reads as reads
-use Rattle.construction.proofs.sum.sum.Lts as lts
-use Rattle.construction.proofs.sum.all_name_matrices.Reads as all-name-matrices-reads
-use Rattle.construction.proofs.sum.fitting_sum.Reads as fitting-sum-reads
-use Rattle.construction.proofs.sum.is_missing.Reads as is-missing-reads
-use Rattle.ingredients.proofs.named.table_named.Reads as table-named-reads
 
-operands : (c : tie.Start) → Operands (c .args .list .now) (c .args .at)
-operands c = operands-stand (c .pre .1 .readable) (c .pre .0)
+operands : (c : tie.Start) → SumOperands (c .args .list .now) (c .args .at)
+operands c = operands-known (c .pre .1 .readable) (c .pre .0)
 
 abbrev sheet-of : tie.Start → Table
 sheet-of c = sheetIn (c .args .table .now) (c .args .levels .now) (c .args .size)
@@ -76,14 +70,14 @@ named : (c : tie.Else1)
     → true ≡ allOf (λ d. ltb 0 (matrixAt (c .before .before .before .before .before .before .before .before .args .list .now) d .rows)) (matrixNumbers (c .before .before .before .before .before .before .before .before .args .list .now) (c .before .before .before .before .before .before .before .before .args .at))
 named c = sym (not-false _ (c .if1 .left)) ∙ rw part-same at (c .before .all-name-matrices .ensures)
 
-mul-k : tie.Need-mul-k
-mul-k c = omega (arith, operands (c .before .before .before .before .before .before .before .before) .within)
+mul-last : tie.Need-mul-last
+mul-last c = omega (arith, operands (c .before .before .before .before .before .before .before .before) .within)
 
-shared-slice-read-k : tie.Need-shared-slice-read-k
-shared-slice-read-k c = operands (c .before .before .before .before .before .before .before .before .before) .within
+shared-slice-read-last : tie.Need-shared-slice-read-last
+shared-slice-read-last c = operands (c .before .before .before .before .before .before .before .before .before) .within
 
-cast-k : tie.Need-cast-k
-cast-k c =
+cast-last : tie.Need-cast-last
+cast-last c =
     let a = c .before .before .before .before .before .before .before .before .before .args in
     omega (arith, c .shared-slice-known3 .given (a .at + 1 + getD (a .list .now) (a .at) 0))
 
@@ -166,9 +160,9 @@ sum-spec =
     part-all-name-matrices-end
     all-name-matrices-requires
     returns
-    mul-k
-    shared-slice-read-k
-    cast-k
+    mul-last
+    shared-slice-read-last
+    cast-last
     table-named-requires
     is-missing-requires
     returns-2

@@ -1,18 +1,14 @@
--- `construction::sum::put_summed_levels` meets its contract. The invariant: the level counts that the first `j` of the sheet give are put.
-use borrow.Author.Needs.{needs}
-use mathlib.Core.Path.{sym}
+-- `construction::sum_sheet::put_summed_levels` meets its contract. The invariant: the level counts that the first `j` of the sheet give are put.
 use Prim.Native.Nat.{_-_}
 use native.Mathlib.Omega.{arith}
+use borrow.Author.Needs.{needs}
 use lib.ListN.{length, getD, replicate, length-replicate}
 use Rattle.buffers.proofs.Puts.{put-length}
 use Rattle.counting.specs.Generator.{AllBelow}
 use Rattle.construction.specs.Summing.{summedLevels}
 use Rattle.construction.proofs.Pieces.{Pieces, pieces-none, pieces-room, pieces-next, pieces-all}
-use Rattle.construction.proofs.sum.put_summed_levels.Statement.{statement}
-use Rattle.construction.proofs.sum.put_summed_levels.Tie as tie
-use Rattle.construction.proofs.sum.put_summed_levels.Reads as reads
-use Rattle.construction.proofs.sum.put_summed_levels.Lts as lts
-use Rattle.construction.proofs.sum.put_repeated.Reads as put-repeated-reads
+use Rattle.construction.proofs.sum_sheet.put_summed_levels.Statement.{statement}
+use Rattle.construction.proofs.sum_sheet.put_summed_levels.Tie as tie
 
 abbrev Inv-loop : tie.InvT-loop
 Inv-loop buf₀ at levels widths place₀ j₀ buf place j = Pieces (λ s. replicate (getD widths s 0) s) levels buf₀ at j buf place

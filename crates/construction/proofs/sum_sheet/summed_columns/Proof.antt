@@ -1,16 +1,14 @@
--- `construction::sum::summed_columns` meets its contract. The invariant: the columns of the first `j` level counts are counted.
-use borrow.Author.Needs.{needs}
+-- `construction::sum_sheet::summed_columns` meets its contract. The invariant: the columns of the first `j` level counts are counted.
 use mathlib.Core.Path.{sym}
 use Prim.Native.Nat.{_≤_, _*_, _-_}
 use native.Mathlib.Omega.{arith}
+use borrow.Author.Needs.{needs}
 use lib.ListN.{length, getD, replicate, length-replicate}
 use Rattle.counting.specs.Generator.{AllBelow}
 use Rattle.construction.specs.Summing.{summedLevels}
 use Rattle.construction.proofs.Pieces.{Counted, counted-none, counted-next, counted-all}
-use Rattle.construction.proofs.sum.summed_columns.Statement.{statement}
-use Rattle.construction.proofs.sum.summed_columns.Tie as tie
-use Rattle.construction.proofs.sum.summed_columns.Reads as reads
-use Rattle.construction.proofs.sum.summed_columns.Lts as lts
+use Rattle.construction.proofs.sum_sheet.summed_columns.Statement.{statement}
+use Rattle.construction.proofs.sum_sheet.summed_columns.Tie as tie
 
 abbrev Inv-loop : tie.InvT-loop
 Inv-loop levels widths total₀ j₀ total j = Counted (λ s. replicate (getD widths s 0) s) levels j total × (total ≤ 255 * j) × (j ≤ length levels)

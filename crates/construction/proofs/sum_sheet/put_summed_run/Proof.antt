@@ -1,20 +1,16 @@
--- `construction::sum::put_summed_run` meets its contract. The invariant: the sums of the first `j` columns are put, up to `place`.
-use mathlib.Core.Path.{_≡_, sym, _∙_}
-use Prim.Native.Nat.{ℕ, _+_, _*_, _≤_, _<_, _-_}
+-- `construction::sum_sheet::put_summed_run` meets its contract. The invariant: the sums of the first `j` columns are put, up to `place`.
+use Prim.Native.Nat.{ℕ, _<_, _-_}
+use Prim.Native.Nat.{_<_, _-_}
 use native.Mathlib.Omega.{arith}
+use borrow.Author.Needs.{needs}
 use lib.ListN.{length, getD}
 use Rattle.buffers.proofs.Puts.{put-length}
 use Rattle.counting.specs.Generator.{AllBelow, from}
 use Rattle.construction.specs.Summing.{summedCells, summedRun}
 use Rattle.construction.proofs.Pieces.{Pieces, pieces-none, below-room, below-next, below-all}
 use Rattle.construction.proofs.Sums.{row-part, cells-length}
-use borrow.Author.Needs.{needs}
-use Prim.Native.Nat.{_+_, _*_, _≤_, _<_, _-_}
-use Rattle.construction.proofs.sum.put_summed_run.Statement.{statement}
-use Rattle.construction.proofs.sum.put_summed_run.Tie as tie
-use Rattle.construction.proofs.sum.put_summed_run.Reads as reads
-use Rattle.construction.proofs.sum.put_summed_run.Lts as lts
-use Rattle.construction.proofs.sum.put_sums.Reads as put-sums-reads
+use Rattle.construction.proofs.sum_sheet.put_summed_run.Statement.{statement}
+use Rattle.construction.proofs.sum_sheet.put_summed_run.Tie as tie
 
 abbrev Inv-loop : tie.InvT-loop
 Inv-loop buf₀ at list entries widths row levels cells place₀ j₀ buf place j =

@@ -1,26 +1,23 @@
--- `construction::sum::serve` meets its contract. The invariant: the first `i` matrices fit together and are entered into the arrays.
+-- `construction::sum_matrices::serve` meets its contract. The invariant: the first `i` matrices fit together and are entered into the arrays.
 use mathlib.Core.Path.{_≡_, sym, _∙_, ap}
-use mathlib.Core.List.{List}
-use Prim.Native.Nat.{ℕ, _-_, _*_, _<_}
+use Prim.Native.Nat.{_-_}
+use Prim.Native.Nat.{_-_}
 use native.Mathlib.Omega.{arith}
-use lib.ListN.{length, length-set}
-use Rattle.ingredients.specs.Standing.{MatrixStands}
-use Rattle.construction.specs.Bytes.{zeros}
-use Rattle.construction.proofs.Serving.{list-short, place-stands, SoFar, so-far-none, so-far-next, so-far-all, rows-differ, p-again, not-true}
 use borrow.Author.Needs.{needs}
-use Prim.Native.Nat.{_-_, _<_}
-use Rattle.construction.proofs.Serving.{list-short, place-stands, SoFar, so-far-none, so-far-next, so-far-all, rows-differ, p-again}
-use Rattle.construction.proofs.sum.serve.Statement.{statement}
-use Rattle.construction.proofs.sum.serve.Tie as tie
-use Rattle.construction.proofs.sum.serve.Reads as reads
-use Rattle.construction.proofs.sum.serve.Lts as lts
-use Rattle.construction.proofs.sum.matrix_named.Reads as matrix-named-reads
+use lib.ListN.{length}
+use Rattle.ingredients.specs.Standing.{MatrixStands}
+use Rattle.construction.proofs.Operands.{list-short}
+use Rattle.construction.proofs.Serving.{place-stands, SoFar, so-far-none, so-far-next, so-far-all, rows-differ, p-again, untrue}
+use Rattle.construction.proofs.Operands.{list-short}
+use Rattle.construction.proofs.Serving.{place-stands, SoFar, so-far-none, so-far-next, so-far-all, rows-differ, p-again}
+use Rattle.construction.proofs.sum_matrices.serve.Statement.{statement}
+use Rattle.construction.proofs.sum_matrices.serve.Tie as tie
 
 abbrev Inv-loop : tie.InvT-loop
-Inv-loop list numbers rows entries₀ widths₀ i₀ entries widths i = SoFar list numbers rows i entries widths
+Inv-loop list ds rows entries₀ widths₀ i₀ entries widths i = SoFar list ds rows i entries widths
 
 abbrev μ-loop : tie.MeasureT-loop
-μ-loop list numbers rows entries₀ widths₀ i₀ entries widths i = length numbers - i
+μ-loop list ds rows entries₀ widths₀ i₀ entries widths i = length ds - i
 
 loop-holds : tie.Need-loop-holds Inv-loop μ-loop
 loop-holds c =
@@ -54,7 +51,7 @@ same-length-2 c = widths-kept (c .before .before .before .before .before)
 returns : tie.Need-returns Inv-loop μ-loop
 returns c = (
   rows-differ (c .before .before .before .before .before .loop .inv) (c .before .before .before .before .loop-test .taken) (c .before .before .matrix-named .ensures) (c .if1 .taken),
-  λ e. not-true e,
+  λ e. untrue e,
 )
 
 stands : (c : tie.Else1 Inv-loop μ-loop)
@@ -77,14 +74,14 @@ same-length-4 c = widths-kept (c .before .before .before .before .before .before
 returns-2 : tie.Need-returns-2 Inv-loop μ-loop
 returns-2 c = (
   p-again (c .before .before .before .before .before .before .before .loop .inv) (c .before .before .before .before .before .before .loop-test .taken) (c .before .before .before .before .matrix-named .ensures) (c .if2 .taken),
-  λ e. not-true e,
+  λ e. untrue e,
 )
 
 cast-entries : tie.Need-cast-entries Inv-loop μ-loop
 cast-entries c =
     let found = c .before .before .before in
     let start = found .before .before .before .before .before .before .before .before .before .before in
-    omega (arith, stands found .entries-within, list-short _ (start .pre .0))
+    omega (arith, stands found .entries-within, list-short (start .pre .0))
 
 mul-entries : tie.Need-mul-entries Inv-loop μ-loop
 mul-entries c = omega (arith, stands (c .before .before .before) .modulus-limits .1)

@@ -1,18 +1,16 @@
--- `construction::sum::all_served` meets its contract. The invariant: the first `j` level counts are served.
-use borrow.Author.Needs.{needs}
+-- `construction::sum_matrices::all_served` meets its contract. The invariant: the first `j` level counts are served.
 use Prim.Native.Nat.{_-_}
 use native.Mathlib.Omega.{arith}
+use borrow.Author.Needs.{needs}
 use lib.Dec.{ltb}
 use lib.ListN.{length, getD}
 use Rattle.counting.specs.Generator.{AllBelow}
-use Rattle.construction.proofs.Pieces.{Passing, passing-none, passing-more, passing-all, passing-fails, positive-true, positive-false}
-use Rattle.construction.proofs.sum.all_served.Statement.{statement}
-use Rattle.construction.proofs.sum.all_served.Tie as tie
-use Rattle.construction.proofs.sum.all_served.Reads as reads
-use Rattle.construction.proofs.sum.all_served.Lts as lts
+use Rattle.construction.proofs.Pieces.{PassSoFar, passing-none, passing-more, passing-all, passing-fails, positive-true, positive-false}
+use Rattle.construction.proofs.sum_matrices.all_served.Statement.{statement}
+use Rattle.construction.proofs.sum_matrices.all_served.Tie as tie
 
 abbrev Inv-loop : tie.InvT-loop
-Inv-loop levels widths j₀ j = Passing (λ s. ltb 0 (getD widths s 0)) levels j
+Inv-loop levels widths j₀ j = PassSoFar (λ s. ltb 0 (getD widths s 0)) levels j
 
 abbrev μ-loop : tie.MeasureT-loop
 μ-loop levels widths j₀ j = length levels - j

@@ -1,10 +1,8 @@
--- `construction::sum::level_sum` meets its contract: a sum of two numbers below p is at most once too large.
-use Rattle.construction.proofs.Sums.{sum-small, sum-large}
+-- `construction::sum_sheet::level_sum` meets its contract: a sum of two numbers below p is at most once too large.
 use borrow.Author.Needs.{needs}
-use Rattle.construction.proofs.sum.level_sum.Statement.{statement}
-use Rattle.construction.proofs.sum.level_sum.Tie as tie
-use Rattle.construction.proofs.sum.level_sum.Reads as reads
-use Rattle.construction.proofs.sum.level_sum.Lts as lts
+use Rattle.construction.proofs.Sums.{sum-small, sum-large}
+use Rattle.construction.proofs.sum_sheet.level_sum.Statement.{statement}
+use Rattle.construction.proofs.sum_sheet.level_sum.Tie as tie
 
 add-total : tie.Need-add-total
 add-total c = search needs

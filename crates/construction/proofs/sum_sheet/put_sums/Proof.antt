@@ -1,21 +1,17 @@
--- `construction::sum::put_sums` meets its contract. The invariant: the sums with the first `c` entries are put, up to `place`.
+-- `construction::sum_sheet::put_sums` meets its contract. The invariant: the sums with the first `c` entries are put, up to `place`.
 use mathlib.Core.Path.{sym, _∙_}
 use mathlib.Core.List.{map}
-use Prim.Native.Nat.{_≤_, _<_, _-_}
+use Prim.Native.Nat.{_-_}
 use native.Mathlib.Omega.{arith}
+use borrow.Author.Needs.{needs}
 use lib.ListN.{length, length-map}
 use Rattle.buffers.proofs.Puts.{put-length}
 use Rattle.counting.specs.Generator.{AllBelow}
 use Rattle.counting.proofs.Lists.{getD-map}
 use Rattle.sheets.specs.Sum.{levelSum}
 use Rattle.construction.proofs.Pieces.{Front, front-none, front-room, front-next, front-all}
-use borrow.Author.Needs.{needs}
-use Rattle.construction.proofs.sum.put_sums.Statement.{statement}
-use Rattle.construction.proofs.sum.put_sums.Tie as tie
-use Rattle.construction.proofs.sum.put_sums.Reads as reads
-use Rattle.construction.proofs.sum.put_sums.Lts as lts
-use Rattle.buffers.proofs.put_byte.Reads as put-byte-reads
-use Rattle.construction.proofs.sum.level_sum.Reads as level-sum-reads
+use Rattle.construction.proofs.sum_sheet.put_sums.Statement.{statement}
+use Rattle.construction.proofs.sum_sheet.put_sums.Tie as tie
 
 abbrev Inv-loop : tie.InvT-loop
 Inv-loop buf₀ at p level row place₀ c₀ buf place c = Front (map (levelSum p level) row) buf₀ at c buf place

@@ -1,8 +1,9 @@
--- `construction::sum::put_runs` meets its contract. The invariant: the first `r` runs are put, up to `place`.
-use mathlib.Core.Path.{_≡_, sym, _∙_}
-use Prim.Native.Nat.{ℕ, _+_, _*_, _/_, _%_, _≤_, _<_, _-_}
+-- `construction::sum_sheet::put_runs` meets its contract. The invariant: the first `r` runs are put, up to `place`.
+use Prim.Native.Nat.{_+_, _*_, _/_, _%_, _≤_, _-_}
 use native.Mathlib.Omega.{arith}
-use lib.ListN.{length, getD, take, drop}
+use borrow.Author.Needs.{needs}
+use lib.ListN.{length, take, drop}
+use lib.ListN.{length}
 use Rattle.buffers.proofs.Puts.{put-join, put-length}
 use Rattle.counting.specs.Generator.{from}
 use Rattle.counting.specs.Table.{columns}
@@ -10,24 +11,16 @@ use Rattle.ingredients.specs.Named.{tableIn}
 use Rattle.construction.specs.Summing.{summedRun, builtRun, Adjoins}
 use Rattle.construction.proofs.Pieces.{Pieces, pieces-none, below-room, below-next, below-all}
 use Rattle.construction.proofs.Sums.{rows-positive, run-below, row-below, row-stands, run-stands, run-within, part-same, built-length}
-use borrow.Author.Needs.{needs}
-use lib.ListN.{length, getD, length-append}
-use Rattle.construction.specs.Bytes.{runOf}
-use Rattle.construction.proofs.Bytes.{run-length}
 use Rattle.construction.proofs.Sums.{rows-positive, run-below, row-below, row-stands, run-stands, run-within, part-same}
-use Rattle.construction.proofs.sum.put_runs.Statement.{statement}
-use Rattle.construction.proofs.sum.put_runs.Tie as tie
-use Rattle.construction.proofs.sum.put_runs.Reads as reads
-use Rattle.construction.proofs.sum.put_runs.Lts as lts
-use Rattle.construction.proofs.sum.put_adjoined.Reads as put-adjoined-reads
-use Rattle.construction.proofs.sum.put_summed_run.Reads as put-summed-run-reads
+use Rattle.construction.proofs.sum_sheet.put_runs.Statement.{statement}
+use Rattle.construction.proofs.sum_sheet.put_runs.Tie as tie
 
 abbrev Inv-loop : tie.InvT-loop
-Inv-loop buf₀ list entries widths rows adjoined runs table levels total place₀ r₀ buf place r =
-    Pieces (builtRun list entries widths rows (tableIn list adjoined) table levels) (from 0 (runs * rows)) buf₀ 0 r buf place
+Inv-loop buf₀ list entries widths rows k runs table levels total place₀ r₀ buf place r =
+    Pieces (builtRun list entries widths rows (tableIn list k) table levels) (from 0 (runs * rows)) buf₀ 0 r buf place
 
 abbrev μ-loop : tie.MeasureT-loop
-μ-loop buf₀ list entries widths rows adjoined runs table levels total place₀ r₀ buf place r = runs * rows - r
+μ-loop buf₀ list entries widths rows k runs table levels total place₀ r₀ buf place r = runs * rows - r
 
 abbrev start-of : tie.In-loop Inv-loop μ-loop → tie.Start Inv-loop μ-loop
 start-of c = c .before .before .before .before .before .before .before .before
@@ -42,9 +35,9 @@ sheet-run c = run-within (start-of c .pre .1 .0) _ (run-below _ _ _ (c .loop-tes
 room : (c : tie.In-loop Inv-loop μ-loop)
     → c .before .loop .place
     + (length (summedRun (start-of c .args .list .now) (start-of c .args .entries .now) (start-of c .args .widths .now) (c .before .loop .r % start-of c .args .rows) (start-of c .args .levels .now) (take (length (start-of c .args .levels .now)) (drop (c .before .loop .r / start-of c .args .rows * length (start-of c .args .levels .now)) (start-of c .args .table .now))))
-    + columns (tableIn (start-of c .args .list .now) (start-of c .args .adjoined)))
+    + columns (tableIn (start-of c .args .list .now) (start-of c .args .k)))
     ≤ length (c .before .loop .buf)
-room c = rw built-length at (below-room (c .before .loop .inv) (c .loop-test .taken) (omega (arith, start-of c .pre .1 .1 .1 .1 .1)))
+room c = rw built-length at (below-room (c .before .loop .inv) (c .loop-test .taken) (omega (arith, start-of c .pre .1 .1 .1 .1)))
 
 mul-total : tie.Need-mul-total Inv-loop μ-loop
 mul-total c = omega arith
@@ -82,16 +75,16 @@ put-summed-run-requires c κs =
       (run-stands (start .pre .1 .0) _ (run-below _ _ _ (turn .loop-test .taken)), omega (arith, room turn)),
     )
 
-put-adjoined-requires : tie.Need-put-adjoined-requires Inv-loop μ-loop
+put-run-requires : tie.Need-put-run-requires Inv-loop μ-loop
 unfolding Adjoins
-put-adjoined-requires c κs =
+put-run-requires c κs =
     let turn = c .before .before .before .before .before .before in
     let start = start-of turn in
     let put = rw part-same at (c .before .before .before .put-summed-run .ensures) in
-    (start .pre .1 .1 .0, (λ some. rw (start .pre .1 .1 .1 .0 some) (row-below _ _ _ (turn .loop-test .taken)), omega (arith, room turn, put .ends, put-length put)))
+    (start .pre .1 .1 .0 .0, (λ some. rw (start .pre .1 .1 .0 .1 some) (row-below _ _ _ (turn .loop-test .taken)), omega (arith, room turn, put .ends, put-length put)))
 
 add-r : tie.Need-add-r Inv-loop μ-loop
-add-r c = let turn = c .before .before .before .before .before .before .before .before .before in omega (arith, turn .loop-test .taken, start-of turn .pre .1 .1 .1 .1 .0)
+add-r c = let turn = c .before .before .before .before .before .before .before .before .before in omega (arith, turn .loop-test .taken, start-of turn .pre .1 .1 .1 .0)
 
 loop-less : tie.Need-loop-less Inv-loop μ-loop
 loop-less c = search needs
@@ -101,7 +94,7 @@ unfolding builtRun
 loop-again c =
     let turn = c .before .before .before .before .before .before .before .before .before in
     below-next (turn .before .loop .inv) (turn .loop-test .taken)
-    (put-join (rw part-same at (c .before .before .before .before .before .before .put-summed-run .ensures)) (c .before .before .put-adjoined .ensures))
+    (put-join (rw part-same at (c .before .before .before .before .before .before .put-summed-run .ensures)) (c .before .before .put-run .ensures))
 
 same-length : tie.Need-same-length Inv-loop μ-loop
 same-length c = put-length (c .before .loop .inv .put)
@@ -125,7 +118,7 @@ put-runs-spec =
     part-put-summed-run-start
     part-put-summed-run-end
     put-summed-run-requires
-    put-adjoined-requires
+    put-run-requires
     add-r
     loop-less
     loop-again

@@ -1,17 +1,14 @@
--- `construction::sum::put_repeated` meets its contract. The invariant: the byte is put `i` times, up to `place`.
-use borrow.Author.Needs.{needs}
+-- `construction::sum_sheet::put_repeated` meets its contract. The invariant: the byte is put `i` times, up to `place`.
 use mathlib.Core.Path.{_≡_}
 use Prim.Native.Nat.{_≤_, _-_}
 use native.Mathlib.Omega.{arith}
+use borrow.Author.Needs.{needs}
 use lib.ListN.{replicate, length-replicate}
 use Rattle.buffers.specs.Put.{Put}
 use Rattle.buffers.proofs.Puts.{put-none, put-length}
 use Rattle.construction.proofs.Sums.{put-again}
-use Rattle.construction.proofs.sum.put_repeated.Statement.{statement}
-use Rattle.construction.proofs.sum.put_repeated.Tie as tie
-use Rattle.construction.proofs.sum.put_repeated.Reads as reads
-use Rattle.construction.proofs.sum.put_repeated.Lts as lts
-use Rattle.buffers.proofs.put_byte.Reads as put-byte-reads
+use Rattle.construction.proofs.sum_sheet.put_repeated.Statement.{statement}
+use Rattle.construction.proofs.sum_sheet.put_repeated.Tie as tie
 
 abbrev Inv-loop : tie.InvT-loop
 Inv-loop buf₀ at byte times place₀ i₀ buf place i = (i ≤ times) × Put buf₀ at (replicate i byte) buf place

@@ -1,25 +1,22 @@
--- `construction::sum::all_name_matrices` meets its contract. The invariant: the first `i` numbers name matrices.
-use borrow.Author.Needs.{needs}
+-- `construction::sum_matrices::all_name_matrices` meets its contract. The invariant: the first `i` numbers name matrices.
 use mathlib.Core.Path.{sym, _∙_, ap}
 use Prim.Native.Nat.{_-_}
 use native.Mathlib.Omega.{arith}
+use borrow.Author.Needs.{needs}
 use lib.Dec.{ltb}
 use lib.ListN.{length}
 use Rattle.counting.specs.Matrix.{matrixOf}
 use Rattle.construction.specs.Summing.{matrixIn, matrixAt}
-use Rattle.construction.specs.declared.sum.MatrixPlace.{MatrixPlace}
-use Rattle.construction.proofs.Pieces.{Passing, passing-none, passing-more, passing-all, passing-fails, positive-true, positive-false}
-use Rattle.construction.proofs.sum.all_name_matrices.Statement.{statement}
-use Rattle.construction.proofs.sum.all_name_matrices.Tie as tie
-use Rattle.construction.proofs.sum.all_name_matrices.Reads as reads
-use Rattle.construction.proofs.sum.all_name_matrices.Lts as lts
-use Rattle.construction.proofs.sum.matrix_named.Reads as matrix-named-reads
+use Rattle.construction.specs.declared.sum_matrices.MatrixPlace.{MatrixPlace}
+use Rattle.construction.proofs.Pieces.{PassSoFar, passing-none, passing-more, passing-all, passing-fails, positive-true, positive-false}
+use Rattle.construction.proofs.sum_matrices.all_name_matrices.Statement.{statement}
+use Rattle.construction.proofs.sum_matrices.all_name_matrices.Tie as tie
 
 abbrev Inv-loop : tie.InvT-loop
-Inv-loop list numbers i₀ i = Passing (λ d. ltb 0 (matrixAt list d .rows)) numbers i
+Inv-loop list ds i₀ i = PassSoFar (λ d. ltb 0 (matrixAt list d .rows)) ds i
 
 abbrev μ-loop : tie.MeasureT-loop
-μ-loop list numbers i₀ i = length numbers - i
+μ-loop list ds i₀ i = length ds - i
 
 loop-holds : tie.Need-loop-holds Inv-loop μ-loop
 loop-holds c = passing-none _ _

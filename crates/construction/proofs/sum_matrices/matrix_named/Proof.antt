@@ -1,12 +1,9 @@
--- `construction::sum::matrix_named` meets its contract: each arm is a clause of `matrixPlace`.
+-- `construction::sum_matrices::matrix_named` meets its contract: each arm is a clause of `matrixPlace`.
 use mathlib.Core.Path.{sym, _∙_, ap}
-use Rattle.construction.specs.Summing.{matrixPlace}
 use borrow.Author.Needs.{needs}
-use Rattle.construction.proofs.sum.matrix_named.Statement.{statement}
-use Rattle.construction.proofs.sum.matrix_named.Tie as tie
-use Rattle.construction.proofs.sum.matrix_named.Reads as reads
-use Rattle.construction.proofs.sum.matrix_named.Lts as lts
-use Rattle.order.proofs.places.ingredient_at.Reads as ingredient-at-reads
+use Rattle.construction.specs.Summing.{matrixPlace}
+use Rattle.construction.proofs.sum_matrices.matrix_named.Statement.{statement}
+use Rattle.construction.proofs.sum_matrices.matrix_named.Tie as tie
 
 ingredient-at-requires : tie.Need-ingredient-at-requires
 ingredient-at-requires c κs = search needs
