@@ -46,32 +46,7 @@ fn runs_by_sum(name: &[u8], list: &mut [u16], rows: u16) {
 fn columns_by_sum() {
     let mut list = [0u16; 100];
     let mut at = put_all(&mut list, 0, &[3u16, 1, 2, 1, 2, 0, 1]);
-    at = put_all(
-        &mut list,
-        at,
-        &[
-            2u16,
-            4,
-            4,
-            2,
-            0,
-            0,
-            0,
-            0,
-            0,
-            1,
-            0,
-            1,
-            0,
-            0,
-            1,
-            1,
-            0,
-            1,
-            1,
-            0,
-        ],
-    );
+    at = matrix_of_4_rows(&mut list, at);
     at = put_all(&mut list, at, &[2u16, 2, 2, 2, 0, 0, 0, 1]);
     at = put_all(&mut list, at, &[5u16, 1, 1]);
     at = put_times(&mut list, at, &[3u16, 1, 2, 0], 3);
@@ -79,6 +54,12 @@ fn columns_by_sum() {
     show_beginning(b"SUM to 128 columns", &list, end);
     let other = put_all(&mut list, at, &[3u16, 1, 3, 1]);
     show_beginning(b"SUM to 129 columns", &list, other);
+}
+
+// A matrix of 4 rows and 4 columns for 2 levels.
+fn matrix_of_4_rows(list: &mut [u16], start: usize) -> usize {
+    let at = put_all(list, start, &[2u16, 4, 4, 2, 0, 0, 0, 0, 0, 1, 0, 1]);
+    put_all(list, at, &[0u16, 0, 1, 1, 0, 1, 1, 0])
 }
 
 // From 4 runs of one column with 4 levels to 512 runs of that column and 126 or 127 columns with 2 levels; then the column gives way to two.
@@ -105,32 +86,7 @@ fn widening(list: &mut [u16]) -> usize {
 
 // Ingredients 2 to 5: for 2 and for 4 levels, matrices of 4 rows and then of 2.
 fn matrices(list: &mut [u16], start: usize) -> usize {
-    let mut at = put_all(
-        list,
-        start,
-        &[
-            2u16,
-            4,
-            4,
-            2,
-            0,
-            0,
-            0,
-            0,
-            0,
-            1,
-            0,
-            1,
-            0,
-            0,
-            1,
-            1,
-            0,
-            1,
-            1,
-            0,
-        ],
-    );
+    let mut at = matrix_of_4_rows(list, start);
     at = put_all(list, at, &[2u16, 4, 1, 4, 0, 1, 2, 3]);
     at = put_all(list, at, &[2u16, 2, 2, 2, 0, 0, 0, 1]);
     put_all(list, at, &[2u16, 2, 1, 4, 0, 2])

@@ -1,4 +1,5 @@
 // Plans an order in buffers that are full of other bytes, and prints what it comes to.
+use crate::lists::put_all;
 use crate::table_out::filled;
 use crate::table_out::note_left;
 use sheets::answer::Answer;
@@ -17,6 +18,15 @@ pub fn show_beginning(name: &[u8], list: &[u16], n: usize) {
     if n <= list.len() {
         show(name, &list[..n]);
     }
+}
+
+// The same of a list in three parts, of 64 numbers at most.
+pub fn show_parts(name: &[u8], first: &[u16], second: &[u16], third: &[u16]) {
+    let mut list = [0u16; 64];
+    let mut at = put_all(&mut list, 0, first);
+    at = put_all(&mut list, at, second);
+    at = put_all(&mut list, at, third);
+    show_beginning(name, &list, at);
 }
 
 // With these buffers.
@@ -43,6 +53,13 @@ fn refused(why: Refusal) {
         Refusal::ShortBuffers => details(1, 0, 0, 0, 0, 0, 0),
         Refusal::Unreadable { place } => details(2, place, 0, 0, 0, 0, 0),
         Refusal::EntryOutOfRange { place } => details(3, place, 0, 0, 0, 0, 0),
+        _ => table_refused(why),
+    }
+}
+
+// The same of question 4, of a table.
+fn table_refused(why: Refusal) {
+    match why {
         Refusal::UnevenLevel {
             ingredient,
             column,
@@ -65,6 +82,13 @@ fn refused(why: Refusal) {
             second_level,
             times,
         ),
+        _ => matrix_or_generator_refused(why),
+    }
+}
+
+// The same of question 4, of a matrix or a generator.
+fn matrix_or_generator_refused(why: Refusal) {
+    match why {
         Refusal::UnevenDifference {
             ingredient,
             first,
@@ -78,6 +102,13 @@ fn refused(why: Refusal) {
             second,
             coefficients,
         } => details(7, ingredient, first, second, coefficients, 0, 0),
+        _ => step_refused(why),
+    }
+}
+
+// The same of questions 5 to 8, which go by step.
+fn step_refused(why: Refusal) {
+    match why {
         Refusal::StepNotAllowed { step } => details(8, step, 0, 0, 0, 0, 0),
         Refusal::PartsDoNotFit { step } => details(9, step, 0, 0, 0, 0, 0),
         Refusal::NotTheSum { step, run, member } => details(10, step, run, member, 0, 0, 0),
@@ -86,6 +117,7 @@ fn refused(why: Refusal) {
             runs,
             columns,
         } => details(11, step, runs, columns, 0, 0, 0),
+        _ => {}
     }
 }
 

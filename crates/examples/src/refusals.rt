@@ -1,6 +1,7 @@
 // Each refusal of document 01, reached by small orders, and orders next to them that are filled.
 use crate::outcome::show;
 use crate::outcome::show_in;
+use crate::outcome::show_parts;
 
 pub fn by_question() {
     buffers();
@@ -129,58 +130,17 @@ fn tables() {
         b"second ingredient uneven, and used by no step",
         &[2u16, 1, 2, 1, 2, 0, 1, 1, 2, 1, 2, 1, 1, 1, 1, 1],
     );
-    show(
+    show_parts(
         b"columns 2 and 3 the same",
-        &[
-            1u16,
-            1,
-            4,
-            3,
-            2,
-            2,
-            2,
-            0,
-            0,
-            0,
-            0,
-            1,
-            1,
-            1,
-            0,
-            0,
-            1,
-            1,
-            1,
-            1,
-            1,
-            1,
-        ],
+        &[1u16, 1, 4, 3, 2, 2, 2],
+        &[0u16, 0, 0, 0, 1, 1, 1, 0, 0, 1, 1, 1],
+        &[1u16, 1, 1],
     );
-    show(
+    show_parts(
         b"levels 0 and 1 of columns with 2 and 3 levels",
-        &[
-            1u16,
-            1,
-            6,
-            2,
-            2,
-            3,
-            0,
-            0,
-            0,
-            1,
-            0,
-            1,
-            1,
-            0,
-            1,
-            2,
-            1,
-            2,
-            1,
-            1,
-            1,
-        ],
+        &[1u16, 1, 6, 2, 2, 3],
+        &[0u16, 0, 0, 1, 0, 1, 1, 0, 1, 2, 1, 2],
+        &[1u16, 1, 1],
     );
 }
 
@@ -260,30 +220,11 @@ fn sums() {
         b"SUM, p served twice",
         &[1u16, 2, 2, 2, 2, 0, 0, 0, 1, 2, 1, 101, 3, 2, 1, 1, 0],
     );
-    show(
+    show_parts(
         b"SUM, matrices of 2 and 1 rows",
-        &[
-            2u16,
-            2,
-            2,
-            1,
-            2,
-            0,
-            1,
-            2,
-            1,
-            1,
-            3,
-            0,
-            2,
-            1,
-            101,
-            3,
-            2,
-            1,
-            2,
-            0,
-        ],
+        &[2u16, 2, 2, 1, 2, 0, 1],
+        &[2u16, 1, 1, 3, 0],
+        &[2u16, 1, 101, 3, 2, 1, 2, 0],
     );
     show(
         b"SUM, k of 4 runs for 2 rows",
@@ -293,9 +234,11 @@ fn sums() {
         b"SUM, k of 4 runs for 4 rows",
         &[1u16, 2, 4, 1, 2, 0, 1, 0, 1, 2, 1, 101, 3, 1, 1, 101],
     );
-    show(
+    show_parts(
         b"SUM, a matrix that serves no column",
-        &[2u16, 2, 1, 1, 2, 1, 2, 1, 1, 3, 2, 2, 1, 101, 3, 2, 2, 1, 0],
+        &[2u16, 2, 1, 1, 2, 1],
+        &[2u16, 1, 1, 3, 2],
+        &[2u16, 1, 101, 3, 2, 2, 1, 0],
     );
 }
 
@@ -310,83 +253,22 @@ fn merges() {
 }
 
 fn splits() {
-    show(
+    show_parts(
         b"SPLIT of the 6 levels of 104",
-        &[
-            1u16,
-            1,
-            6,
-            2,
-            3,
-            2,
-            0,
-            0,
-            0,
-            1,
-            1,
-            0,
-            1,
-            1,
-            2,
-            0,
-            2,
-            1,
-            2,
-            1,
-            104,
-            5,
-            1,
-            1,
-        ],
+        &[1u16, 1, 6, 2, 3, 2],
+        &[0u16, 0, 0, 1, 1, 0, 1, 1, 2, 0, 2, 1],
+        &[2u16, 1, 104, 5, 1, 1],
     );
     show(b"SPLIT, column 4 of 3", &[0u16, 2, 1, 101, 5, 4, 101]);
     show(b"SPLIT, 4 runs for 2 levels", &[0u16, 2, 1, 101, 5, 1, 101]);
 }
 
 fn members() {
-    show(
+    show_parts(
         b"MERGE, column 3 is not the sum of 1 and 2",
-        &[
-            1u16,
-            1,
-            8,
-            3,
-            2,
-            2,
-            2,
-            0,
-            0,
-            0,
-            0,
-            0,
-            1,
-            0,
-            1,
-            0,
-            0,
-            1,
-            1,
-            1,
-            0,
-            0,
-            1,
-            0,
-            1,
-            1,
-            1,
-            0,
-            1,
-            1,
-            1,
-            2,
-            1,
-            1,
-            4,
-            2,
-            1,
-            2,
-            3,
-        ],
+        &[1u16, 1, 8, 3, 2, 2, 2, 0, 0, 0, 0, 0, 1],
+        &[0u16, 1, 0, 0, 1, 1, 1, 0, 0, 1, 0, 1, 1, 1, 0, 1, 1, 1],
+        &[2u16, 1, 1, 4, 2, 1, 2, 3],
     );
     show(
         b"MERGE, columns 2, 3 and 4 of 103",
