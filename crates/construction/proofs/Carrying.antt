@@ -33,12 +33,13 @@ use Rattle.sheets.proofs.Carried.{refused-not-filled}
 use Rattle.sheets.proofs.Ingredients.{all-at}
 use Rattle.sheets.proofs.Sheets.{first-filled, later-filled}
 use Rattle.sheets.proofs.StepAgreement.{AgreeOutcome, both-filled, both-refused, provided-agree, later-agree}
-use Rattle.construction.specs.Bytes.{Holds, Zeros, LongEnough, sheetIn}
-use Rattle.construction.specs.Carry.{Readable, Passing, Stands, Ready, Underway, firstIn, laterIn, inOrder, startIn, proceedIn, allIn, Left}
-use Rattle.construction.specs.declared.size.Size.{Size}
+use Rattle.layout.specs.Bytes.{Holds, Zeros, LongEnough, sheetIn}
+use Rattle.layout.specs.Step.{Readable, Stands, Ready, firstIn, laterIn, inOrder, Left}
+use Rattle.construction.specs.Carry.{Passing, Underway, startIn, proceedIn, allIn}
+use Rattle.layout.specs.declared.Size.{Size}
 use Rattle.construction.proofs.Promises.{refused-unfilled}
-use Rattle.construction.proofs.Operands.{stands-step}
-use Rattle.construction.proofs.Sheets.{holds-agrees, agree-holds}
+use Rattle.layout.proofs.Operands.{in-order, first-in, later-in, stands-step}
+use Rattle.layout.proofs.Sheets.{holds-agrees, agree-holds}
 
 -- ---- single steps of the list
 
@@ -53,10 +54,6 @@ one-or-two : (n : ℕ) → 1 ≤ n → n ≤ 5 → n ≢ 3 → n ≢ 4 → n ≢
 one-or-two n low high three four five = by-cases (decLt n 2) (λ one. inl (omega arith)) (λ more. inr (omega (arith, three, four, five)))
 
 module _ {list : List ℕ} (read : Readable list) where
-  pub in-order : (come : Order → Outcome) → inOrder list come ≡ come (read .order)
-  unfolding inOrder
-  in-order come = rw (read .reads)
-
   -- what a look-up of step number k + 1 gives
   looked-up : (k kind at : ℕ) → stepAt (readOrder list) (suc k) ≡ StepAt kind at → getElem? (read .order .steps) k ≡ some (operandsOf list kind at)
   looked-up k kind at found = sym (step-described list (read .order) (read .reads) k) ∙ ap (stepIn list) found
@@ -65,27 +62,27 @@ module _ {list : List ℕ} (read : Readable list) where
   not-there k found = sym (step-described list (read .order) (read .reads) k) ∙ ap (stepIn list) found
 
   pub start-found : (kind at : ℕ) → stepAt (readOrder list) 1 ≡ StepAt kind at → startIn list ≡ firstIn list kind at
-  unfolding startIn firstIn provided
+  unfolding startIn provided
   start-found kind at found =
-      in-order _ ∙ ap (λ x. provided x (StepNotAllowed 1) (firstStep (read .order))) (looked-up 0 kind at found) ∙ rw (read .reads)
+      in-order read _ ∙ ap (λ x. provided x (StepNotAllowed 1) (firstStep (read .order))) (looked-up 0 kind at found) ∙ sym (first-in read kind at)
 
   pub start-missing : stepAt (readOrder list) 1 ≡ Missing → startIn list ≡ refused (StepNotAllowed 1)
   unfolding startIn provided
-  start-missing found = in-order _ ∙ ap (λ x. provided x (StepNotAllowed 1) (firstStep (read .order))) (not-there 0 found)
+  start-missing found = in-order read _ ∙ ap (λ x. provided x (StepNotAllowed 1) (firstStep (read .order))) (not-there 0 found)
 
   proceed-found-next : (k : ℕ) (S : Table) (kind at : ℕ) → stepAt (readOrder list) (suc k) ≡ StepAt kind at
       → proceedIn list (suc k) S ≡ laterIn list (suc k) S kind at
-  unfolding proceedIn laterIn provided
+  unfolding proceedIn provided
   proceed-found-next k S kind at found =
-      in-order _
+      in-order read _
       ∙ ap (λ j. provided (getElem? (read .order .steps) j) (StepNotAllowed (suc k)) (laterStep (read .order) (suc k) S)) (let same : suc k - 1 ≡ k = omega arith in same)
       ∙ ap (λ x. provided x (StepNotAllowed (suc k)) (laterStep (read .order) (suc k) S)) (looked-up k kind at found)
-      ∙ rw (read .reads)
+      ∙ sym (later-in read kind at (suc k) S)
 
   proceed-missing-next : (k : ℕ) (S : Table) → stepAt (readOrder list) (suc k) ≡ Missing → proceedIn list (suc k) S ≡ refused (StepNotAllowed (suc k))
   unfolding proceedIn provided
   proceed-missing-next k S found =
-      in-order _
+      in-order read _
       ∙ ap (λ j. provided (getElem? (read .order .steps) j) (StepNotAllowed (suc k)) (laterStep (read .order) (suc k) S)) (let same : suc k - 1 ≡ k = omega arith in same)
       ∙ ap (λ x. provided x (StepNotAllowed (suc k)) (laterStep (read .order) (suc k) S)) (not-there k found)
 
@@ -116,10 +113,10 @@ module _ {list : List ℕ} (read : Readable list) where
 
   -- a first step of kind 3 to 5
   pub first-refused : (kind at : ℕ) → kind ≢ 1 → kind ≢ 2 → firstIn list kind at ≡ refused (StepNotAllowed 1)
-  unfolding firstIn firstStep provided
+  unfolding firstStep provided
   first-refused kind at one two =
-      rw (read .reads, ne-eqb kind 1 one, ne-eqb kind 2 two)
-      (ap (λ x. provided x (StepNotAllowed 1) (sized 1)) (closed (eqb kind 3) (eqb kind 4) _ _ _ _ _ _))
+      first-in read kind at
+      ∙ rw (ne-eqb kind 1 one, ne-eqb kind 2 two) (ap (λ x. provided x (StepNotAllowed 1) (sized 1)) (closed (eqb kind 3) (eqb kind 4) _ _ _ _ _ _))
 
   -- the kind of a step that stands in the list
   stands-kind : (kind at : ℕ) → Stands list kind at → (1 ≤ kind) × (kind ≤ 5)
@@ -129,13 +126,10 @@ module _ {list : List ℕ} (read : Readable list) where
 
   -- a later step of kind 1 or 2
   pub later-refused : (n : ℕ) (S : Table) (kind at : ℕ) → Stands list kind at → kind ≢ 3 → kind ≢ 4 → kind ≢ 5 → laterIn list n S kind at ≡ refused (StepNotAllowed n)
-  unfolding laterIn laterStep provided operation
+  unfolding laterStep provided operation
   later-refused n S kind at stands three four five =
       let (low, high) = stands-kind kind at stands in
-      ⊎-elim
-      (λ (e : kind ≡ 1). rw (read .reads, e))
-      (λ (e : kind ≡ 2). rw (read .reads, e))
-      (one-or-two kind low high three four five)
+      later-in read kind at n S ∙ ⊎-elim (λ (e : kind ≡ 1). rw e) (λ (e : kind ≡ 2). rw e) (one-or-two kind low high three four five)
 
 -- ---- the steps that are left
 
@@ -320,9 +314,9 @@ module _ {list : List ℕ} (pass : Passing list) where
   first : Outcome
   first = provided (getElem? (pass .readable .order .steps) 0) (StepNotAllowed 1) (firstStep (pass .readable .order))
 
-  first-in : startIn list ≡ first
+  start-is : startIn list ≡ first
   unfolding startIn first
-  first-in = in-order (pass .readable) _
+  start-is = in-order (pass .readable) _
 
   rest : Table → Outcome
   rest S = laterSteps (pass .readable .order) 2 S (drop 1 (pass .readable .order .steps))
@@ -342,13 +336,13 @@ module _ {list : List ℕ} (pass : Passing list) where
       → Left (allIn list) (Refused why) table levels
   unfolding proceed Left
   start-refused why table levels is left =
-      rw (all-is ∙ ap (λ x. proceed x rest) (agree-refused table levels (outcome-refl first) (rw (is, first-in) at left)))
+      rw (all-is ∙ ap (λ x. proceed x rest) (agree-refused table levels (outcome-refl first) (rw (is, start-is) at left)))
 
   pub start-filled : {answer : Answer} (n m : ℕ) (table levels scratch : List ℕ) → answer ≡ Filled n m → Left (startIn list) answer table levels → LongEnough table levels scratch → Zeros scratch
       → Underway list 2 (record { runs = n; columns = m }) table levels scratch
   unfolding proceed first rest
   start-filled n m table levels scratch is left long clear =
-      let (S, same, runs, many, holds) = agree-filled table levels (outcome-refl first) (rw (is, first-in) at left) in
+      let (S, same, runs, many, holds) = agree-filled table levels (outcome-refl first) (rw (is, start-is) at left) in
       let (sound, small) = opened-sound (getElem? (pass .readable .order .steps) 0) same in
       record {
         passing = pass;

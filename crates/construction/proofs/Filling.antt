@@ -24,8 +24,9 @@ use Rattle.sheets.proofs.OrderQuestions.{reads-whole, ingredients-decide}
 use Rattle.sheets.proofs.Filled.{outcome-read, asked}
 use Rattle.ingredients.specs.Passing.{passingOf, passingIn}
 use Rattle.ingredients.specs.declared.passing.Passing.the-variants.{AllPass, Refused}
-use Rattle.construction.specs.Carry.{Readable, Passing, allIn, passedIn}
-use Rattle.construction.proofs.Carrying.{in-order}
+use Rattle.layout.specs.Step.{Readable}
+use Rattle.layout.proofs.Operands.{in-order}
+use Rattle.construction.specs.Carry.{Passing, allIn, passedIn}
 
 -- ---- question 2
 

@@ -23,11 +23,11 @@ use Rattle.sheets.specs.declared.answer.Answer.{Answer}
 use Rattle.sheets.specs.declared.answer.Answer.the-variants.{Filled, Refused}
 use Rattle.sheets.proofs.Carried.{refused-not-filled}
 use Rattle.sheets.proofs.Filled.{filled-fillable, fillable-filled, filled-sound}
-use Rattle.construction.specs.Bytes.{runsOf, zeros, padded, Holds, Zeros, LongEnough}
-use Rattle.construction.specs.Carry.{Left}
+use Rattle.layout.specs.Bytes.{runsOf, zeros, padded, Holds, Zeros, LongEnough}
+use Rattle.layout.specs.Step.{Left}
 use Rattle.construction.specs.Promise.{suffice, planned, answerTo, tableBytes, levelBytes, EvenBytes, Promise}
-use Rattle.construction.proofs.Bytes.{runs-length, runs-cell}
-use Rattle.construction.proofs.Sheets.{padded-length, padded-at, cells-few}
+use Rattle.layout.proofs.Bytes.{runs-length, runs-cell}
+use Rattle.layout.proofs.Sheets.{padded-length, padded-at, cells-few}
 
 -- ---- a sound table in bytes is even there
 

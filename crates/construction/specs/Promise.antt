@@ -14,7 +14,7 @@ use Rattle.sheets.specs.Fillable.{Fillable, orderedTable}
 use Rattle.sheets.specs.declared.answer.Refusal.the-variants.{ShortBuffers}
 use Rattle.sheets.specs.declared.answer.Answer.{Answer}
 use Rattle.sheets.specs.declared.answer.Answer.the-variants.{Filled, Refused}
-use Rattle.construction.specs.Bytes.{runsOf, zeros, padded, LongEnough}
+use Rattle.layout.specs.Bytes.{runsOf, zeros, padded, LongEnough}
 
 -- Question 1, from the lengths of run table, level list and scratch alone
 abbrev pub suffice : ℕ → ℕ → ℕ → Bool

@@ -1,19 +1,20 @@
 // The steps of an order, one after the other: a step's questions come before the next step's.
 ghost use Prim.Native.Nat.{_≤_};
 ghost use lib.ListN.{length};
-ghost use Rattle.construction.specs.Bytes.{Zeros, LongEnough, sheetIn};
-ghost use Rattle.construction.specs.Carry.{Readable, Passing, Stands, Ready, Underway, firstIn, laterIn, startIn, proceedIn, allIn, Left};
-use crate::field::field;
-use crate::merge::merge;
-use crate::size::Size;
-use crate::split::split;
-use crate::sum::sum;
-use crate::take::take;
+ghost use Rattle.layout.specs.Bytes.{Zeros, LongEnough, sheetIn};
+ghost use Rattle.layout.specs.Step.{Readable, Stands, Ready, firstIn, laterIn, Left};
+ghost use Rattle.construction.specs.Carry.{Passing, Underway, startIn, proceedIn, allIn};
+use layout::Size;
+use merging::merge;
+use opening::field::field;
+use opening::take::take;
 use order::Placed;
 use order::places::step_at;
 use order::places::step_count;
 use sheets::answer::Answer;
 use sheets::answer::Refusal;
+use splitting::split;
+use summing::sum;
 
 // The first step, which is of kind 1 or 2.
 fn first_step(list: &[u16], kind: usize, at: usize, table: &mut [u8], levels: &mut [u8]) -> Answer

@@ -1,7 +1,8 @@
 // Questions 2 to 8, on clear buffers that are long enough.
 ghost use Rattle.sheets.specs.Outcome.{outcome};
-ghost use Rattle.construction.specs.Bytes.{Zeros, LongEnough};
-ghost use Rattle.construction.specs.Carry.{Readable, passedIn, Left};
+ghost use Rattle.layout.specs.Bytes.{Zeros, LongEnough};
+ghost use Rattle.layout.specs.Step.{Readable, Left};
+ghost use Rattle.construction.specs.Carry.{passedIn};
 use crate::carry::carry_out;
 use ingredients::passing::Passing;
 use ingredients::passing::first_failing;

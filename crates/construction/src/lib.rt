@@ -1,21 +1,11 @@
 // The construction of a run table from an order, in five kinds of steps: the planner.
 mod carry; // carry.rt: the steps, one after the other
-mod field; // field.rt: step 2
 mod fill; // fill.rt: questions 2 to 8
-mod merge; // merge.rt: step 4
-mod named_table; // named_table.rt: a table that a number names, put into a buffer
-mod settle; // settle.rt: a sheet built in the scratch takes the place of the sheet in hand
-mod size; // size.rt: the size of the sheet in hand
-mod split; // split.rt: step 5
-mod sum; // sum.rt: step 3
-mod sum_matrices; // sum_matrices.rt: the matrices of step 3, by the level counts that they serve
-mod sum_sheet; // sum_sheet.rt: the sheet that step 3 leaves
-mod take; // take.rt: step 1
 
 ghost use mathlib.Core.Path.{_≡_};
 ghost use lib.ListN.{length};
 ghost use Rattle.sheets.specs.Outcome.{outcome};
-ghost use Rattle.construction.specs.Bytes.{Zeros, LongEnough};
+ghost use Rattle.layout.specs.Bytes.{Zeros, LongEnough};
 ghost use Rattle.construction.specs.Promise.{suffice, answerTo, tableBytes, levelBytes, Promise};
 use buffers::clear;
 use fill::fill;

@@ -11,7 +11,7 @@ use Rattle.sheets.specs.declared.answer.Refusal.{Refusal}
 use Rattle.sheets.specs.declared.answer.Refusal.the-variants.{ShortBuffers, Unreadable, EntryOutOfRange, UnevenLevel, UnevenPair, UnevenDifference, Dependent, StepNotAllowed, PartsDoNotFit, NotTheSum, TooLarge}
 use Rattle.sheets.specs.declared.answer.Answer.{Answer}
 use Rattle.sheets.specs.declared.answer.Answer.the-variants.{Filled, Refused}
-use Rattle.construction.specs.Bytes.{LongEnough}
+use Rattle.layout.specs.Bytes.{LongEnough}
 use Rattle.construction.specs.Promise.{EvenBytes, Promise}
 use Rattle.exported.specs.Numbers.{answerNumbers}
 use Rattle.exported.specs.Exported.{answerFrom, PromiseInNumbers}

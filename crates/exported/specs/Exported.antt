@@ -6,7 +6,7 @@ use Prim.Native.Nat.{ℕ}
 use lib.ListN.{length, getD}
 use Rattle.sheets.specs.Fillable.{Fillable}
 use Rattle.sheets.specs.declared.answer.Answer.{Answer}
-use Rattle.construction.specs.Bytes.{LongEnough}
+use Rattle.layout.specs.Bytes.{LongEnough}
 use Rattle.construction.specs.Promise.{planned, answerTo, EvenBytes, Promise}
 use Rattle.exported.specs.Numbers.{answerNumbers}
 

@@ -15,10 +15,10 @@ use Rattle.sheets.specs.declared.answer.Refusal.the-variants.{ShortBuffers}
 use Rattle.sheets.specs.declared.answer.Answer.{Answer}
 use Rattle.sheets.proofs.Carried.{refused-not-filled}
 use Rattle.sheets.proofs.Filled.{filled-sound}
-use Rattle.construction.specs.Bytes.{runOf, runsOf, zeros, padded}
+use Rattle.layout.specs.Bytes.{runOf, runsOf, zeros, padded}
 use Rattle.construction.specs.Promise.{suffice, planned, answerTo, tableBytes, levelBytes, Promise}
-use Rattle.construction.proofs.Bytes.{runs-length}
-use Rattle.construction.proofs.Sheets.{padded-length, cells-few}
+use Rattle.layout.proofs.Bytes.{runs-length}
+use Rattle.layout.proofs.Sheets.{padded-length, cells-few}
 use Rattle.report.specs.Report.{answerLines, lineCount, Fitting, Printable, outcomePrinted}
 use Rattle.report.proofs.Padded.{filled-printed, refused-printed}
 

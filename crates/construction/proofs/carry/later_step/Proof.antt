@@ -1,6 +1,6 @@
 -- `construction::carry::later_step` meets its contract: kinds 3, 4 and 5 are carried out, any other is refused.
 use borrow.Author.Needs.{needs}
-use Rattle.construction.specs.Carry.{Left}
+use Rattle.layout.specs.Step.{Left}
 use Rattle.construction.proofs.Carrying.{later-refused}
 use Rattle.construction.proofs.carry.later_step.Statement.{statement}
 use Rattle.construction.proofs.carry.later_step.Tie as tie

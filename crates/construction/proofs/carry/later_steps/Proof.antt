@@ -8,8 +8,9 @@ use borrow.Author.Needs.{needs}
 use lib.ListN.{length}
 use Rattle.order.specs.Grammar.{readOrder}
 use Rattle.order.specs.Places.{stepCount}
-use Rattle.construction.specs.Carry.{Underway, Left}
-use Rattle.construction.specs.declared.size.Size.{Size}
+use Rattle.layout.specs.Step.{Left}
+use Rattle.construction.specs.Carry.{Underway}
+use Rattle.layout.specs.declared.Size.{Size}
 use Rattle.construction.proofs.Carrying.{underway-ready, steps-counted, steps-few, step-refused, step-filled, none-left}
 use Rattle.construction.proofs.carry.later_steps.Statement.{statement}
 use Rattle.construction.proofs.carry.later_steps.Tie as tie

@@ -1,7 +1,7 @@
 -- `construction::carry::proceed` meets its contract: the step of that number of the list is carried out on the sheet in hand.
 use borrow.Author.Needs.{needs}
 use mathlib.Core.Path.{sym, _∙_}
-use Rattle.construction.specs.Carry.{Left}
+use Rattle.layout.specs.Step.{Left}
 use Rattle.construction.proofs.Carrying.{proceed-found, proceed-missing}
 use Rattle.construction.proofs.carry.proceed.Statement.{statement}
 use Rattle.construction.proofs.carry.proceed.Tie as tie

@@ -1,7 +1,7 @@
 -- `construction::carry::start` meets its contract: step number 1 of the list is the first step.
 use borrow.Author.Needs.{needs}
 use mathlib.Core.Path.{sym, _∙_}
-use Rattle.construction.specs.Carry.{Left}
+use Rattle.layout.specs.Step.{Left}
 use Rattle.construction.proofs.Carrying.{start-found, start-missing}
 use Rattle.construction.proofs.carry.start.Statement.{statement}
 use Rattle.construction.proofs.carry.start.Tie as tie

@@ -2,9 +2,9 @@
 use borrow.Author.Needs.{needs}
 use mathlib.Core.Path.{refl, sym, _∙_}
 use lib.ListN.{length}
-use Rattle.construction.specs.Bytes.{Zeros}
-use Rattle.construction.specs.Carry.{Left}
-use Rattle.construction.proofs.Bytes.{zeros-all}
+use Rattle.layout.specs.Bytes.{Zeros}
+use Rattle.layout.specs.Step.{Left}
+use Rattle.layout.proofs.Bytes.{zeros-all}
 use Rattle.construction.proofs.Carrying.{long-kept}
 use Rattle.construction.proofs.Filling.{still-in-range, all-pass, passed-all, passed-refused}
 use Rattle.construction.proofs.fill.check_and_carry_out.Statement.{statement}

@@ -1,7 +1,7 @@
 -- `construction::fill::fill` meets its contract: questions 2 and 3, and where both pass the others.
 use borrow.Author.Needs.{needs}
 use mathlib.Core.Path.{sym, _∙_}
-use Rattle.construction.specs.Carry.{Left}
+use Rattle.layout.specs.Step.{Left}
 use Rattle.construction.proofs.Filling.{unreadable, reads, out-of-range, not-unread, readable, in-range-outcome}
 use Rattle.construction.proofs.fill.fill.Statement.{statement}
 use Rattle.construction.proofs.fill.fill.Tie as tie

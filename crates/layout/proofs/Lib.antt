@@ -1,0 +1,4 @@
+pub mod Bytes
+pub mod Operands
+pub mod Rows
+pub mod Sheets

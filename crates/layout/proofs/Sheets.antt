@@ -1,0 +1,156 @@
+-- Laws of the sheet in hand: where it lies in the buffers, and that another that was built in the scratch takes its place.
+-- Assumes nothing.
+use mathlib.Core.Path.{_≡_, refl, sym, _∙_, ap, ap₂}
+use mathlib.Core.Logic.{by-cases}
+use mathlib.Core.List.{List, _++_, map, flatMap}
+use Prim.Native.Nat.{ℕ, _+_, _-_, _*_, _≤_, _<_}
+use native.Mathlib.Nat.{le-trans, mul-le-mul}
+use native.Mathlib.Decide.{decLt}
+use native.Mathlib.Omega.{arith}
+use lib.Dec.{lit≤}
+use lib.ListN.{length, getD, take, drop, length-append, length-replicate, getD-replicate, List·getD-append, List·getD-eq-default}
+use lib.Seq.{length-take-le, take-at, drop-at, getD-take, getD-append-add}
+use Rattle.buffers.specs.Put.{Put}
+use Rattle.buffers.proofs.Puts.{put-front}
+use Rattle.counting.specs.Generator.{from}
+use Rattle.counting.specs.Table.{Table, columns, levelsOf, tableOf}
+use Rattle.sheets.specs.Sheet.{Agree}
+use Rattle.sheets.proofs.Agreement.{agree-columns}
+use Rattle.layout.specs.Bytes.{runOf, runsOf, zeros, padded, Holds, Zeros, sheetIn}
+use Rattle.layout.specs.Step.{Ready}
+use Rattle.layout.specs.declared.Size.{Size}
+use Rattle.layout.proofs.Bytes.{map-below, flatMap-same, put-padded, zeros-all, runs-length, runs-cell}
+
+-- ---- padded buffers
+
+pub padded-length : (n : ℕ) (xs : List ℕ) → length xs ≤ n → length (padded n xs) ≡ n
+unfolding padded
+padded-length n xs h =
+    length-append xs (zeros (n - length xs)) ∙ omega (arith, length-replicate {A = ℕ} (n - length xs) 0)
+
+pub zero-at : (n k : ℕ) → getD (zeros n) k 0 ≡ 0
+zero-at n k = by-cases (decLt k n) (λ h. getD-replicate n k 0 0 h) (λ h. List·getD-eq-default (zeros n) 0 {n = k} (omega (arith, length-replicate {A = ℕ} n 0)))
+
+pub padded-at : (n : ℕ) (xs : List ℕ) (k : ℕ) → getD (padded n xs) k 0 ≡ getD xs k 0
+unfolding padded
+padded-at n xs k =
+    by-cases (decLt k (length xs))
+    (λ (h : k < length xs). List·getD-append xs (zeros (n - length xs)) 0 k h)
+    (λ h.
+    let there : k ≡ length xs + (k - length xs) = omega arith in
+    ap (λ (i : ℕ). getD (xs ++ zeros (n - length xs)) i 0) there
+    ∙ getD-append-add xs (zeros (n - length xs)) (k - length xs) 0
+    ∙ zero-at (n - length xs) (k - length xs)
+    ∙ sym (List·getD-eq-default xs 0 {n = k} (omega arith)))
+
+pub padded-long : (n : ℕ) (bytes : List ℕ) → length bytes ≤ length (padded n bytes)
+unfolding padded
+padded-long n bytes = omega (arith, length-append bytes (zeros (n - length bytes)))
+
+pub padded-front : (n k : ℕ) (xs : List ℕ) → length xs ≡ k → take k (padded n xs) ≡ xs
+unfolding padded
+padded-front n k xs e = take-at xs (zeros (n - length xs)) k e
+
+pub padded-after : (n k : ℕ) (xs : List ℕ) → length xs ≡ k → Zeros (drop k (padded n xs))
+unfolding padded
+padded-after n k xs e = zeros-all (n - length xs) (drop-at xs (zeros (n - length xs)) k e)
+
+-- ---- the sheet in hand
+
+module _ (table levels : List ℕ) (size : Size) (few : size .columns ≤ length levels) where
+  pub sheet-columns : columns (sheetIn table levels size) ≡ size .columns
+  unfolding sheetIn tableOf
+  sheet-columns = length-take-le (size .columns) levels few
+
+  pub sheet-level : (c : ℕ) → c < size .columns → levelsOf (sheetIn table levels size) c ≡ getD levels c 0
+  unfolding sheetIn tableOf
+  sheet-level c h = getD-take (size .columns) levels c 0 h
+
+  pub sheet-cell : (r c : ℕ) → sheetIn table levels size .cell r c ≡ getD table (r * size .columns + c) 0
+  unfolding sheetIn tableOf
+  sheet-cell r c = ap (λ (m : ℕ). getD table (r * m + c) 0) (length-take-le (size .columns) levels few)
+
+-- at most 512 runs of at most 128 columns
+pub cells-few : {runs columns : ℕ} → runs ≤ 512 → columns ≤ 128 → runs * columns ≤ 65536
+cells-few h k = mul-le-mul h k
+
+module _ {list : List ℕ} {size : Size} {table levels scratch : List ℕ} (ready : Ready list size table levels scratch) where
+  pub ready-few : size .columns ≤ length levels
+  ready-few = le-trans (ready .columns-most) (ready .long .levels-long)
+
+  pub ready-runs : size .runs ≤ 512
+  unfolding sheetIn tableOf
+  ready-runs = ready .small .runs-most
+
+  pub ready-columns : columns (sheetIn table levels size) ≡ size .columns
+  ready-columns = sheet-columns table levels size ready-few
+
+  pub ready-used : size .runs * size .columns ≤ length table
+  ready-used = le-trans (cells-few ready-runs (ready .columns-most)) (ready .long .table-long)
+
+  -- the sheet's cells, and as many bytes as they are
+  sheet-runs-length : length (runsOf (sheetIn table levels size)) ≡ size .runs * size .columns
+  unfolding sheetIn tableOf
+  sheet-runs-length = runs-length (sheetIn table levels size) ∙ ap (λ (m : ℕ). size .runs * m) ready-columns
+
+  pub ready-after : Zeros (drop (size .runs * size .columns) table)
+  ready-after = rw (ready .holds .runs-first) (padded-after (length table) (size .runs * size .columns) _ sheet-runs-length)
+
+  pub ready-levels-after : Zeros (drop (size .columns) levels)
+  ready-levels-after = rw (ready .holds .levels-first) (padded-after (length levels) (size .columns) _ ready-columns)
+
+-- ---- a sheet built in a clear scratch
+
+module _ {clear scratch : List ℕ} {built : ℕ} (S : Table) (zeros-before : Zeros clear) (put : Put clear 0 (runsOf S) scratch built) where
+  built-scratch : scratch ≡ padded (length clear) (runsOf S)
+  unfolding Zeros
+  built-scratch = put-padded (length clear) zeros-before put
+
+  built-many : length (runsOf S) ≡ built
+  built-many = omega (arith, put .ends)
+
+  -- what `settle` asks of the scratch
+  pub built-after : Zeros (drop built scratch)
+  built-after = rw built-scratch (padded-after (length clear) built (runsOf S) built-many)
+
+  -- what it then leaves
+  pub built-holds : {table levels counts : List ℕ} (n m : ℕ)
+      → length table ≡ n → length levels ≡ m
+      → table ≡ padded n (take built scratch) → levels ≡ padded m counts → counts ≡ S .levels → Holds S table levels
+  built-holds {table} {levels} {counts} n m table-long levels-long runs-are levels-are counts-are =
+      record {
+        runs-first = runs-are ∙ ap₂ padded (sym table-long) (put-front put);
+        levels-first = levels-are ∙ ap₂ padded (sym levels-long) counts-are;
+      }
+
+-- ---- the sheet of the definitions and the one in bytes
+
+-- a table that lies in the buffers is the sheet of its size there
+pub holds-agrees : (S : Table) (table levels : List ℕ) (size : Size) → Holds S table levels → size .runs ≡ S .runs → size .columns ≡ columns S
+    → size .columns ≤ length levels → Agree S (sheetIn table levels size)
+unfolding sheetIn tableOf
+holds-agrees S table levels size holds runs-are columns-are few =
+    record {
+      same-runs = sym runs-are;
+      same-levels =
+          sym (padded-front (length levels) (size .columns) (S .levels) (sym columns-are)) ∙ ap (take (size .columns)) (sym (holds .levels-first));
+      same-cells = λ r c h k.
+          sym (runs-cell S r c h k)
+          ∙ sym (padded-at (length table) (runsOf S) (r * columns S + c))
+          ∙ ap₂ (λ (xs : List ℕ) (m : ℕ). getD xs (r * m + c) 0) (sym (holds .runs-first)) (sym columns-are ∙ sym (sheet-columns table levels size few));
+    }
+
+-- and one that agrees with it lies there too
+module _ {A B : Table} (alike : Agree A B) where
+  runs-agree : runsOf A ≡ runsOf B
+  unfolding runsOf runOf
+  runs-agree =
+      flatMap-same (runOf A) (λ r. map (B .cell r) (from 0 (columns A))) (A .runs) (λ r h. map-below (A .cell r) (B .cell r) (columns A) (λ c k. alike .same-cells r c h k))
+      ∙ ap₂ (λ (m n : ℕ). flatMap (λ r. map (B .cell r) (from 0 m)) (from 0 n)) (agree-columns alike) (alike .same-runs)
+
+  pub agree-holds : {table levels : List ℕ} → Holds A table levels → Holds B table levels
+  agree-holds {table} {levels} holds =
+      record {
+        runs-first = holds .runs-first ∙ ap (padded (length table)) runs-agree;
+        levels-first = holds .levels-first ∙ ap (padded (length levels)) (alike .same-levels);
+      }

@@ -1,0 +1,44 @@
+-- The bytes that hold a table: document 01, after "The questions". "Filled: N, m, the table run by run from byte 0, the m level counts; all other
+-- bytes of both buffers are zero, and the scratch is zero after every call."
+use mathlib.Core.Path.{_≡_}
+use mathlib.Core.List.{List, _++_, map, flatMap}
+use Prim.Native.Nat.{ℕ, _-_, _≤_}
+use lib.ListN.{length, take, replicate}
+use Rattle.counting.specs.Generator.{from}
+use Rattle.counting.specs.Table.{Table, columns, tableOf}
+use Rattle.layout.specs.declared.Size.{Size}
+
+-- run r, level by level
+unfoldable pub runOf : Table → ℕ → List ℕ
+runOf S r = map (S .cell r) (from 0 (columns S))
+
+-- run by run
+unfoldable pub runsOf : Table → List ℕ
+runsOf S = flatMap (runOf S) (from 0 (S .runs))
+
+-- n zeros
+abbrev pub zeros : ℕ → List ℕ
+zeros n = replicate n 0
+
+-- a buffer of n bytes with some at its front and zeros after them
+unfoldable pub padded : ℕ → List ℕ → List ℕ
+padded n bytes = bytes ++ zeros (n - length bytes)
+
+-- the run table and the level list hold the table S and nothing else
+pub record Holds (S : Table) (table levels : List ℕ) : Type 0 where
+  pub runs-first : table ≡ padded (length table) (runsOf S)
+  pub levels-first : levels ≡ padded (length levels) (S .levels)
+
+-- zeros throughout
+unfoldable pub Zeros : List ℕ → Type 0
+Zeros bytes = bytes ≡ zeros (length bytes)
+
+-- question 1: are the run table and scratch each 65,536 bytes or more and the level list 128 bytes or more?
+pub record LongEnough (table levels scratch : List ℕ) : Type 0 where
+  pub table-long : 65536 ≤ length table
+  pub levels-long : 128 ≤ length levels
+  pub scratch-long : 65536 ≤ length scratch
+
+-- the sheet of a size that lies in the run table and the level list
+unfoldable pub sheetIn : List ℕ → List ℕ → Size → Table
+sheetIn table levels size = tableOf table (take (size .columns) levels) (size .runs)

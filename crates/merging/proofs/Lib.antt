@@ -1,0 +1,6 @@
+pub mod Members
+pub mod Operands
+pub mod Roles
+pub mod Rows
+pub mod Settled
+pub mod Sheet

@@ -1,0 +1,33 @@
+// Step 1, TAKE i: the sheet is table i.
+ghost use Prim.Native.Nat.{_≤_};
+ghost use lib.ListN.{length};
+ghost use Rattle.layout.specs.Bytes.{Zeros};
+ghost use Rattle.layout.specs.Step.{Readable, Stands, firstIn, Left};
+use ingredients::named::NamedTable;
+use ingredients::named::column_count;
+use ingredients::named::run_count;
+use ingredients::named::table_named;
+use layout::named_table::put_level_counts;
+use layout::named_table::put_runs;
+use sheets::answer::Answer;
+use sheets::answer::Refusal;
+
+// A table that is named is never too large: it keeps the limits of the order (question 2).
+pub fn take(list: &[u16], at: usize, table: &mut [u8], levels: &mut [u8]) -> Answer
+    requires { ⌜ Stands (now list) 1 at ⌝ }
+    requires { ⌜ Readable (now list) ⌝ }
+    requires { ⌜ (65536 ≤ length (now table)) × Zeros (now table) ⌝ }
+    requires { ⌜ (128 ≤ length (now levels)) × Zeros (now levels) ⌝ }
+    ensures { λ r. ⌜ Left (firstIn (now (list .entry)) 1 at) r (now (table .exit)) (now (levels .exit)) ⌝ }
+{
+    let named = table_named(list, list[at] as usize);
+    if let NamedTable::Missing = named {
+        return Answer::Refused(Refusal::StepNotAllowed { step: 1 });
+    }
+    put_runs(list, named, table);
+    put_level_counts(list, named, levels, 0);
+    Answer::Filled {
+        runs: run_count(list, named),
+        columns: column_count(list, named),
+    }
+}

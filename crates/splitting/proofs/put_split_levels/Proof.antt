@@ -1,0 +1,72 @@
+-- `construction::split::put_split_levels` meets its contract: three pieces, one after the other.
+use mathlib.Core.Path.{sym}
+use Prim.Native.Nat.{_+_, _≤_}
+use native.Mathlib.Omega.{arith}
+use borrow.Author.Needs.{needs}
+use lib.ListN.{length, length-drop}
+use lib.Seq.{length-take-le}
+use Rattle.buffers.proofs.Puts.{put-join, put-length}
+use Rattle.splitting.specs.Splitting.{giveWay}
+use Rattle.splitting.proofs.Bytes.{part-rest}
+use Rattle.splitting.proofs.put_split_levels.Statement.{statement}
+use Rattle.splitting.proofs.put_split_levels.Tie as tie
+
+slice-aggregate-put-bytes : tie.Need-slice-aggregate-put-bytes
+slice-aggregate-put-bytes c =
+    let start = c .before .before .before .before .before in
+    let within : start .args .c ≤ length (start .args .levels .now) = omega (arith, start .pre .1 .0) in
+    sym (length-take-le _ _ within)
+
+put-bytes-requires : tie.Need-put-bytes-requires
+put-bytes-requires c κs = let start = c .before .before .before .before .before in omega (arith, slice-aggregate-put-bytes c, start .pre .1 .0, start .pre .1 .1)
+
+put-level-counts-requires : tie.Need-put-level-counts-requires
+put-level-counts-requires c κs =
+    let start = c .before .before .before .before .before .before .before .before .before in
+    let first = c .before .before .before .put-bytes .ensures in
+    (start .pre .0, omega (arith, slice-aggregate-put-bytes (c .before .before .before .before), start .pre .1 .0, start .pre .1 .1, put-length first, first .ends))
+
+add-put-bytes : tie.Need-add-put-bytes
+add-put-bytes c = search needs
+
+sub-put-bytes : tie.Need-sub-put-bytes
+sub-put-bytes c = search needs
+
+part-put-bytes-start : tie.Need-part-put-bytes-start
+part-put-bytes-start c = search needs
+
+part-put-bytes-end : tie.Need-part-put-bytes-end
+part-put-bytes-end c = search needs
+
+put-bytes-requires-2 : tie.Need-put-bytes-requires-2
+put-bytes-requires-2 c κs =
+    let start = c .before .before .before .before .before .before .before .before .before .before .before .before .before .before in
+    let first = c .before .before .before .before .before .before .before .before .put-bytes .ensures in
+    let second = c .before .before .before .before .put-level-counts .ensures in
+    rw (part-rest (start .args .c + 1) (start .args .levels .now), length-drop)
+    (omega (arith, slice-aggregate-put-bytes (c .before .before .before .before .before .before .before .before .before), start .pre .1 .0, start .pre .1 .1, put-length first, first .ends, put-length second, second .ends))
+
+same-length : tie.Need-same-length
+same-length c = search needs
+
+returns : tie.Need-returns
+unfolding giveWay
+returns c =
+    let start = c .before .before .before .before .before .before .before .before .before .before .before .before .before .before .before .before .before in
+    put-join (put-join (c .before .before .before .before .before .before .before .before .before .before .before .put-bytes .ensures) (c .before .before .before .before .before .before .before .put-level-counts .ensures))
+    (rw (part-rest (start .args .c + 1) (start .args .levels .now)) at (c .before .before .put-bytes2 .ensures))
+
+pub put-split-levels-spec : {M : Type 1} → statement M
+put-split-levels-spec =
+    tie.close
+    (tie.spec
+    slice-aggregate-put-bytes
+    put-bytes-requires
+    put-level-counts-requires
+    add-put-bytes
+    sub-put-bytes
+    part-put-bytes-start
+    part-put-bytes-end
+    put-bytes-requires-2
+    same-length
+    returns)

@@ -1,0 +1,126 @@
+// The matrices of SUM, where they stand in the list. For each p two arrays of 65 places, made once for the step, hold where the entries of the
+// matrix that serves p start in the list and how many columns it has, 0 for none.
+ghost use mathlib.Core.Path.{_≡_};
+ghost use mathlib.Core.Bool.{true};
+ghost use Prim.Native.Nat.{_<_};
+ghost use lib.Dec.{ltb};
+ghost use lib.ListN.{length, getD};
+ghost use Rattle.counting.specs.Generator.{AllBelow};
+ghost use Rattle.order.specs.Grammar.{readOrder};
+ghost use Rattle.order.specs.Places.{ingredientAt};
+ghost use Rattle.sheets.specs.Lists.{allOf};
+ghost use Rattle.layout.specs.Bytes.{zeros};
+ghost use Rattle.layout.specs.Step.{Readable};
+ghost use Rattle.summing.specs.Summing.{matrixPlace, matrixAt, matricesAt, fitTogether, Serves};
+use order::Located;
+use order::places::ingredient_at;
+
+// A matrix of the list: its sizes, and the place where its entries start. One with no rows stands for none.
+pub(crate) struct MatrixPlace {
+    pub(crate) rows: usize,
+    pub(crate) columns: usize,
+    pub(crate) p: usize,
+    pub(crate) start: usize,
+}
+
+// The matrix that a number names.
+pub(crate) fn matrix_named(list: &[u16], d: usize) -> MatrixPlace
+    ensures { λ r. ⌜ r ≡ matrixPlace (ingredientAt (readOrder (now (list .entry))) d) ⌝ }
+{
+    let none = MatrixPlace {
+        rows: 0,
+        columns: 0,
+        p: 0,
+        start: 0,
+    };
+    match ingredient_at(list, d) {
+        Located::Table {
+            rows: _,
+            columns: _,
+            levels_at: _,
+            entries_at: _,
+        } => none,
+        Located::Matrix {
+            rows,
+            columns,
+            p,
+            entries_at: start,
+        } => MatrixPlace {
+            rows,
+            columns,
+            p,
+            start,
+        },
+        Located::Generator {
+            t: _,
+            n: _,
+            s: _,
+            widths_at: _,
+            width: _,
+            entries_at: _,
+        } => none,
+        Located::Missing => none,
+    }
+}
+
+// Question 5, of d1 .. dr: whether each number names a matrix.
+pub(crate) fn all_name_matrices(list: &[u16], ds: &[u16]) -> bool
+    ensures { λ r. ⌜ r ≡ allOf (λ d. ltb 0 (matrixAt (now (list .entry)) d .rows)) (now (ds .entry)) ⌝ }
+{
+    let mut i = 0;
+    while i < ds.len() {
+        let named = matrix_named(list, ds[i] as usize);
+        if named.rows == 0 {
+            return false;
+        }
+        i += 1;
+    }
+    true
+}
+
+// Question 6, of the matrices alone: whether each has so many rows and a p of its own. Each is entered into the arrays at its p.
+pub(crate) fn serve(
+    list: &[u16],
+    ds: &[u16],
+    rows: usize,
+    entries: &mut [u16],
+    widths: &mut [u8],
+) -> bool
+    requires { ⌜ Readable (now list) ⌝ }
+    requires { ⌜ 0 < rows ⌝ }
+    requires { ⌜ (now entries ≡ zeros 65) × (now widths ≡ zeros 65) ⌝ }
+    ensures { λ r. ⌜ r ≡ fitTogether rows (matricesAt (now (list .entry)) (now (ds .entry))) ⌝ }
+    ensures { λ r. ⌜ (r ≡ true
+        → Serves (now (list .entry)) (matricesAt (now (list .entry)) (now (ds .entry))) rows (now (entries .exit)) (now (widths .exit))) ⌝ }
+{
+    let mut i = 0;
+    while i < ds.len() {
+        let named = matrix_named(list, ds[i] as usize);
+        if named.rows != rows {
+            return false;
+        }
+        let p = named.p;
+        if widths[p] != 0 {
+            return false;
+        }
+        entries[p] = named.start as u16;
+        widths[p] = named.columns as u8;
+        i += 1;
+    }
+    true
+}
+
+// Whether every level count of the sheet is served.
+pub(crate) fn all_served(levels: &[u8], widths: &[u8]) -> bool
+    requires { ⌜ AllBelow (length (now widths)) (now levels) ⌝ }
+    ensures { λ r. ⌜ r ≡ allOf (λ s. ltb 0 (getD (now (widths .entry)) s 0)) (now (levels .entry)) ⌝ }
+{
+    let mut j = 0;
+    while j < levels.len() {
+        if widths[levels[j] as usize] == 0 {
+            return false;
+        }
+        j += 1;
+    }
+    true
+}
