@@ -79,11 +79,10 @@ module _ {runs columns : ℕ} {levels cells : List ℕ} (fits : Fitting runs col
         let wide : i * columns + columns - i * columns ≡ columns = omega arith in
         rw (line-run i (omega arith)) (rw (back, wide) at p)
 
--- A refusal's line, from its number and details.
-pub put-refusal-line : (why : Refusal) {number : ℕ} {details a b : List ℕ} {j : ℕ} → number ∷ details ≡ numbered why
-    → Put a 0 (refusedLine number details) b j → Put a 0 (refusalLine why) b j
+-- A refusal's line, from its numbers.
+pub put-refusal-line : (why : Refusal) {numbers a b : List ℕ} {j : ℕ} → numbers ≡ numbered why → Put a 0 (refusedLine numbers) b j → Put a 0 (refusalLine why) b j
 unfolding refusalLine
-put-refusal-line why {a = a} {b = b} {j = j} e p = subst (λ (ns : List ℕ). Put a 0 (refusedLine (getD ns 0 0) (drop 1 ns)) b j) e p
+put-refusal-line why e p = rw e at p
 
 -- A line of an answer, by cases.
 pub filled-fits : {answer : Answer} {runs columns : ℕ} (levels cells : List ℕ) → answer ≡ Filled runs columns → Printable answer levels cells

@@ -17,6 +17,7 @@ use Rattle.sheets.specs.Merge.{mergePlace, mergeSources, mergeLevels, mergedLev
 use Rattle.sheets.specs.Ingredients.{asTable, listed, tableNamed}
 use Rattle.sheets.specs.Steps.{proceed, provided, opening, operation, fits, wrongMember, applied, sized, afterSums, operate, firstStep, laterStep, laterSteps, allSteps}
 use Rattle.sheets.specs.Outcome.{rangeRefusal, ingredientRefusal, ingredientsRefusal, unless, readOutcome, outcome}
+use Rattle.sheets.proofs.Starred.{Example, computed, examples, starred}
 use Rattle.text.specs.Words.{isGap, words, isDigit, decimal, isNumber, reading}
 use Rattle.text.specs.Lines.{digits, line, printed}
 use Rattle.report.specs.Report.{outcomePrinted, output}
@@ -30,3 +31,7 @@ lines = 52 ∷ 32 ∷ 49 ∷ 10 ∷ 52 ∷ 10 ∷ 48 ∷ 10 ∷ 49 ∷ 10 ∷ 50
 pub printed-example : output input ≡ lines
 unfolding bind flatMap first from tableOf houseTable houseOf house101 allowed reader.numbers readIngredient readNaming readSum readMerge readSplit readStep readParts readOrder ingredientRange rangeOf fromSources takeStep smallEnough mergePlace mergeSources mergeLevels mergedLevel mergeValue mergeStep mergeFits memberSum memberFaultAt memberFault asTable listed tableNamed proceed provided opening operation fits wrongMember applied sized afterSums operate firstStep laterStep laterSteps allSteps rangeRefusal ingredientRefusal ingredientsRefusal unless readOutcome outcome isGap words isDigit decimal isNumber reading digits line printed outcomePrinted output
 printed-example = refl
+
+-- the starred examples through the outcome, and this one as it is printed, as one statement
+pub counted-examples : (map (λ (e : Example). computed (e .asked)) examples ≡ map (λ (e : Example). e .expected) examples) × (output input ≡ lines)
+counted-examples = (starred, printed-example)

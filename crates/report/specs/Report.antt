@@ -16,7 +16,7 @@ use Rattle.sheets.specs.declared.answer.Answer.the-variants.{Filled, Refused}
 
 -- "A refusal prints one line: "refused", the number and the six details."
 unfoldable pub refusalLine : Refusal → List ℕ
-refusalLine why = refusedLine (getD (numbered why) 0 0) (drop 1 (numbered why))
+refusalLine why = refusedLine (numbered why)
 
 -- The lines of an answer, with the level list and the run table that came with it: of a filled order "N m", the level counts and the runs.
 unfoldable pub answerLines : Answer → List ℕ → List ℕ → List (List ℕ)

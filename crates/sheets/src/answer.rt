@@ -1,4 +1,6 @@
 // What an order comes to.
+ghost use mathlib.Core.Path.{_≡_};
+ghost use Rattle.sheets.specs.Refusals.{numbered};
 
 // Why an order is refused: document 01, "The questions, in turn". Columns, factors, steps, ingredients and members are named from 1; places, runs
 // and levels from 0; `times` is a number of runs.
@@ -60,4 +62,60 @@ pub enum Refusal {
 pub enum Answer {
     Filled { runs: usize, columns: usize },
     Refused(Refusal),
+}
+
+// A refusal in numbers: that of document 01, and its six details.
+pub fn numbers_of(why: Refusal) -> [usize; 7]
+    ensures { λ r. ⌜ r ≡ numbered why ⌝ }
+{
+    match why {
+        Refusal::ShortBuffers => [1, 0, 0, 0, 0, 0, 0],
+        Refusal::Unreadable { place } => [2, place, 0, 0, 0, 0, 0],
+        Refusal::EntryOutOfRange { place } => [3, place, 0, 0, 0, 0, 0],
+        Refusal::UnevenLevel {
+            ingredient,
+            column,
+            level,
+            times,
+        } => [4, ingredient, column, level, times, 0, 0],
+        Refusal::UnevenPair {
+            ingredient,
+            first,
+            second,
+            first_level,
+            second_level,
+            times,
+        } => {
+            [
+                5,
+                ingredient,
+                first,
+                second,
+                first_level,
+                second_level,
+                times,
+            ]
+        }
+        Refusal::UnevenDifference {
+            ingredient,
+            first,
+            second,
+            difference,
+            times,
+        } => { [6, ingredient, first, second, difference, times, 0] }
+        Refusal::Dependent {
+            ingredient,
+            first,
+            second,
+            coefficients,
+        } => [7, ingredient, first, second, coefficients, 0, 0],
+        Refusal::StepNotAllowed { step } => [8, step, 0, 0, 0, 0, 0],
+        Refusal::PartsDoNotFit { step } => [9, step, 0, 0, 0, 0, 0],
+        Refusal::NotTheSum { step, run, member } => [10, step, run, member, 0, 0, 0],
+        Refusal::TooLarge {
+            step,
+            runs,
+            columns,
+        } => [11, step, runs, columns, 0, 0, 0],
+    }
 }

@@ -55,10 +55,6 @@ pub line-more : (n : ℕ) (ns : List ℕ) → line (n ∷ ns) ≡ digits n ++ (s
 unfolding line
 line-more n ns = append-assoc (digits n) (spaced ns) (10 ∷ [])
 
-pub refused-parts : (number : ℕ) (details : List ℕ) → refusedLine number details ≡ refusedWord ++ (32 ∷ digits number) ++ (spaced details ++ (10 ∷ []))
-unfolding refusedLine
-refused-parts number details = simp append-assoc
-
 -- A line with no number, and one with a first number and the rest of them.
 rest : (ns : List ℕ) → take (length ns - 1) (drop 1 ns) ≡ drop 1 ns
 rest ns = take-all (length ns - 1) (drop 1 ns) (omega (arith, length-drop 1 ns))

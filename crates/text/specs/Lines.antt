@@ -35,9 +35,9 @@ line ns = row ns ++ (10 ∷ [])
 abbrev pub refusedWord : List ℕ
 refusedWord = 114 ∷ 101 ∷ 102 ∷ 117 ∷ 115 ∷ 101 ∷ 100 ∷ []
 
--- "A refusal prints one line: "refused", the number and the six details."
-unfoldable pub refusedLine : ℕ → List ℕ → List ℕ
-refusedLine number details = refusedWord ++ spaced (number ∷ details) ++ (10 ∷ [])
+-- "A refusal prints one line: "refused", the number and the six details." These are seven numbers.
+unfoldable pub refusedLine : List ℕ → List ℕ
+refusedLine numbers = refusedWord ++ spaced numbers ++ (10 ∷ [])
 
 -- So many runs, one to a line, whose cells of m columns stand run by run.
 abbrev pub runLines : ℕ → ℕ → List ℕ → List ℕ

@@ -79,11 +79,10 @@ pub fn put_row(buf: &mut [u8], at: usize, cells: &[u8]) -> usize
 }
 
 // The line of a refusal: its number and six details.
-pub fn put_refusal(buf: &mut [u8], at: usize, number: usize, details: [usize; 6]) -> usize
+pub fn put_refusal(buf: &mut [u8], at: usize, numbers: [usize; 7]) -> usize
     requires { ⌜ at + 155 ≤ length (now buf) ⌝ }
-    ensures { λ r. ⌜ Put (now (buf .entry)) at (refusedLine number details) (now (buf .exit)) r ⌝ }
+    ensures { λ r. ⌜ Put (now (buf .entry)) at (refusedLine numbers) (now (buf .exit)) r ⌝ }
 {
     let after_word = put_bytes(buf, at, b"refused");
-    let after_number = put_spaced(buf, after_word, number);
-    end_with_numbers(buf, after_number, &details)
+    end_with_numbers(buf, after_word, &numbers)
 }

@@ -1,11 +1,11 @@
--- `report::put_refused` meets its contract: the number and the details are those of `numbered`.
+-- `report::put_refused` meets its contract: the numbers are those of `numbered`.
 use borrow.Author.Needs.{needs}
 use Rattle.report.proofs.AnswerLines.{put-refusal-line}
 use Rattle.report.proofs.put_refused.Statement.{statement}
 use Rattle.report.proofs.put_refused.Tie as tie
 
-details-of-requires : tie.Need-details-of-requires
-details-of-requires c κs = search needs
+numbers-of-requires : tie.Need-numbers-of-requires
+numbers-of-requires c κs = search needs
 
 put-refusal-requires : tie.Need-put-refusal-requires
 put-refusal-requires c κs = search needs
@@ -14,9 +14,8 @@ same-length : tie.Need-same-length
 same-length c = search needs
 
 returns : tie.Need-returns
-returns c =
-    put-refusal-line _ (c .before .before .before .before .before .details-of .ensures) (c .before .before .put-refusal .ensures)
+returns c = put-refusal-line _ (c .before .before .before .numbers-of .ensures) (c .before .before .put-refusal .ensures)
 
 pub put-refused-spec : {M : Type 1} → statement M
 put-refused-spec =
-    tie.close (tie.spec details-of-requires put-refusal-requires same-length returns)
+    tie.close (tie.spec numbers-of-requires put-refusal-requires same-length returns)

@@ -1,9 +1,9 @@
--- `refusal_numbers` meets its contract: each arm has the numbers of its own case.
+-- `numbers_of` meets its contract: each arm has the numbers of its own case.
 use borrow.Author.Needs.{needs}
 use mathlib.Core.Path.{sym, ap}
 use Rattle.sheets.specs.Refusals.{numbered}
-use Rattle.exported.proofs.numbers.refusal_numbers.Statement.{statement}
-use Rattle.exported.proofs.numbers.refusal_numbers.Tie as tie
+use Rattle.sheets.proofs.answer.numbers_of.Statement.{statement}
+use Rattle.sheets.proofs.answer.numbers_of.Tie as tie
 
 enum-told : tie.Need-enum-told
 enum-told c = search needs
@@ -82,8 +82,8 @@ returns-11 : tie.Need-returns-11
 unfolding numbered
 returns-11 c = sym (ap numbered (c .before .why10 .given .1))
 
-pub refusal-numbers-spec : {M : Type 1} → statement M
-refusal-numbers-spec =
+pub numbers-of-spec : {M : Type 1} → statement M
+numbers-of-spec =
     tie.close
     (tie.spec
     enum-told
