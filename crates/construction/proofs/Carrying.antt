@@ -7,13 +7,12 @@ use mathlib.Core.List.{List, [], _∷_}
 use mathlib.Core.Option.{Option, none, some}
 use Prim.Native.Nat.{ℕ, zero, suc, _+_, _-_, _≤_, _<_}
 use native.Mathlib.Nat.{le-trans}
-use native.Mathlib.Numerals.{add-one}
 use native.Mathlib.Decide.{decLt}
 use native.Mathlib.Omega.{arith}
 use borrow.Author.Tests.{ne-eqb}
 use lib.Dec.{eqb, lit≤}
 use lib.ListN.{length, drop, getElem?, drop-of-length-le}
-use Rattle.counting.specs.Table.{Table, columns, InRange, tableOf}
+use Rattle.counting.specs.Table.{Table, columns}
 use Rattle.order.specs.Order.{Order, Step, TAKE, FIELD, SUM, MERGE, SPLIT, StepLimits}
 use Rattle.order.specs.Reader.{when}
 use Rattle.order.specs.Answers.{kindOf}
@@ -34,7 +33,7 @@ use Rattle.sheets.proofs.Ingredients.{all-at}
 use Rattle.sheets.proofs.Sheets.{first-filled, later-filled}
 use Rattle.sheets.proofs.StepAgreement.{AgreeOutcome, both-filled, both-refused, provided-agree, later-agree}
 use Rattle.layout.specs.Bytes.{Holds, Zeros, LongEnough, sheetIn}
-use Rattle.layout.specs.Step.{Readable, Stands, Ready, firstIn, laterIn, inOrder, Left}
+use Rattle.layout.specs.Step.{Readable, Stands, Ready, firstIn, laterIn, Left}
 use Rattle.construction.specs.Carry.{Passing, Underway, startIn, proceedIn, allIn}
 use Rattle.layout.specs.declared.Size.{Size}
 use Rattle.construction.proofs.Promises.{refused-unfilled}

@@ -1,17 +1,15 @@
 -- Questions 2 to 4 on the list, and the outcome that each leaves.
 -- Assumes nothing.
-use mathlib.Core.Path.{_≡_, refl, sym, _∙_, ap, subst}
+use mathlib.Core.Path.{_≡_, refl, sym, _∙_, ap}
 use mathlib.Core.List.{List}
 use mathlib.Core.Option.{Option, none, some}
 use Prim.Native.Nat.{ℕ}
 use native.Mathlib.Omega.{arith}
-use lib.ListN.{length}
 use Rattle.order.specs.Order.{Order}
 use Rattle.order.specs.Reader.{Parsed, value, refused as unread}
 use Rattle.order.specs.Grammar.{readOrder, Reads}
 use Rattle.order.specs.Answers.{readingOf}
 use Rattle.order.specs.Range.{rangeOf}
-use Rattle.order.specs.declared.Reading.{Reading}
 use Rattle.order.specs.declared.Reading.the-variants.{Reads as ReadsWhole, Refused as RefusedAt}
 use Rattle.order.specs.declared.Entries.the-variants.{InRange, OutOfRange, Unread}
 use Rattle.order.proofs.OrderLaw.{reads-iff}

@@ -12,7 +12,7 @@ use lib.ListN.{length, getD, length-replicate}
 use Rattle.finite.specs.Sum.{count}
 use Rattle.finite.proofs.Counts.{count-ext}
 use Rattle.finite.proofs.Tests.{T-and}
-use Rattle.counting.specs.Table.{Table, columns, levelsOf, Setting, shows, times, combinations, Apart, Settings, InRange, Even}
+use Rattle.counting.specs.Table.{Table, columns, levelsOf, shows, times, combinations, Apart, Settings, InRange, Even}
 use Rattle.sheets.specs.Sheet.{Sound, SmallEnough}
 use Rattle.sheets.specs.Steps.{Outcome, filled, refused}
 use Rattle.sheets.specs.Outcome.{outcome}

@@ -4,7 +4,7 @@ use crate::pairs::IndexPair;
 use crate::verdict::DependenceFault;
 use crate::verdict::GeneratorFinding;
 ghost use mathlib.Core.Path.{_≡_};
-ghost use Prim.Native.Nat.{ℕ, _+_, _*_, _^_, _≤_, _<_};
+ghost use Prim.Native.Nat.{_+_, _*_, _^_, _≤_, _<_};
 ghost use lib.ListN.{length, getD};
 ghost use Rattle.finite.specs.Sum.{sum};
 ghost use Rattle.finite.specs.First.{firstPair};

@@ -7,7 +7,6 @@ use crate::verdict::TableFinding;
 use crate::verdict::TableVerdict;
 ghost use mathlib.Core.Path.{_≡_};
 ghost use Prim.Native.Nat.{_<_};
-ghost use lib.ListN.{length};
 ghost use Rattle.counting.specs.Table.{tableOf};
 ghost use Rattle.counting.specs.Checkable.{CheckableTable};
 ghost use Rattle.counting.specs.Tally.{Cleared};

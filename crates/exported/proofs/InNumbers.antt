@@ -1,18 +1,15 @@
 -- `plan`'s promise gives the promise in numbers: the first number is 0 for a filled order alone. Assumes nothing.
-use mathlib.Core.Path.{_≡_, refl, sym, _∙_, ap, subst}
-use mathlib.Core.Logic.{_↔_}
+use mathlib.Core.Path.{_≡_, refl, ap, subst}
 use mathlib.Core.List.{List}
 use Prim.Native.Nat.{ℕ}
 use native.Mathlib.Omega.{arith}
-use lib.ListN.{length, getD}
+use lib.ListN.{getD}
 use Rattle.sheets.specs.Refusals.{numbered}
-use Rattle.sheets.specs.Fillable.{Fillable}
 use Rattle.sheets.specs.declared.answer.Refusal.{Refusal}
 use Rattle.sheets.specs.declared.answer.Refusal.the-variants.{ShortBuffers, Unreadable, EntryOutOfRange, UnevenLevel, UnevenPair, UnevenDifference, Dependent, StepNotAllowed, PartsDoNotFit, NotTheSum, TooLarge}
 use Rattle.sheets.specs.declared.answer.Answer.{Answer}
 use Rattle.sheets.specs.declared.answer.Answer.the-variants.{Filled, Refused}
-use Rattle.layout.specs.Bytes.{LongEnough}
-use Rattle.construction.specs.Promise.{EvenBytes, Promise}
+use Rattle.construction.specs.Promise.{Promise}
 use Rattle.exported.specs.Numbers.{answerNumbers}
 use Rattle.exported.specs.Exported.{answerFrom, PromiseInNumbers}
 

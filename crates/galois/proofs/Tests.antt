@@ -1,7 +1,7 @@
 -- Tests that antt computes, at every number below n (or every two, or every three) or at every number of a list, and the laws that
 -- turn a passed test into the fact at each. Assumes nothing.
 use mathlib.Core.Path.{subst⁻¹}
-use mathlib.Core.Bool.{Bool, true, false, _&&_, _||_}
+use mathlib.Core.Bool.{Bool, true, _&&_, _||_}
 use mathlib.Core.List.{List, [], _∷_, map}
 use mathlib.Core.Logic.{_≢_, ⊎-elim}
 use Prim.Native.Nat.{ℕ, zero, suc, _<_}

@@ -1,6 +1,6 @@
 // The four house tables: their runs and level counts as constants, looked up by the table's number, 101 to 104.
 ghost use mathlib.Core.Path.{_≡_};
-ghost use Prim.Native.Nat.{_≤_, _<_};
+ghost use Prim.Native.Nat.{_<_};
 ghost use Rattle.counting.specs.Table.{columns, levelsOf};
 ghost use Rattle.house.specs.House.{HouseNumber, houseOf};
 

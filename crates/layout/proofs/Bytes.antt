@@ -9,11 +9,11 @@ use native.Mathlib.Numerals.{add-one}
 use native.Mathlib.Decide.{decLt}
 use native.Mathlib.Omega.{arith}
 use lib.Arith.{digits-lt}
-use lib.ListN.{length, getD, length-map, take, drop, replicate, replicate-append-replicate, length-append, length-drop, length-replicate, take-append-drop, List·getD-append}
+use lib.ListN.{length, getD, length-map, take, drop, replicate, replicate-append-replicate, length-append, length-replicate, take-append-drop, List·getD-append}
 use lib.Seq.{getD-append-add}
 use Rattle.buffers.specs.Put.{Put}
 use Rattle.counting.specs.Generator.{from}
-use Rattle.counting.specs.Table.{Table, columns, levelsOf}
+use Rattle.counting.specs.Table.{Table, columns}
 use Rattle.counting.proofs.Lists.{length-from}
 use Rattle.sheets.specs.Sheet.{fromSources}
 use Rattle.sheets.proofs.Lists.{map-getD, getD-map}

@@ -1,7 +1,7 @@
 -- What the functions that carry out a step take and leave: document 01, "Steps by kind" and questions 5 to 8, on the list and the buffers.
 use mathlib.Core.Path.{_≡_}
 use mathlib.Core.List.{List}
-use Prim.Native.Nat.{ℕ, _-_, _≤_}
+use Prim.Native.Nat.{ℕ, _≤_}
 use Rattle.counting.specs.Table.{Table, columns}
 use Rattle.order.specs.Order.{Order}
 use Rattle.order.specs.Reader.{Parsed, value, refused as unread}

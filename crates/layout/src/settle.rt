@@ -1,6 +1,5 @@
 // A sheet that a step has built in the scratch takes the place of the sheet in hand.
 ghost use mathlib.Core.Path.{_≡_};
-ghost use mathlib.Core.List.{_++_};
 ghost use Prim.Native.Nat.{_≤_};
 ghost use lib.ListN.{length, take, drop};
 ghost use Rattle.layout.specs.Bytes.{Zeros, padded};

@@ -3,18 +3,14 @@
 use mathlib.Core.Path.{_≡_, refl, sym, _∙_, ap, subst}
 use mathlib.Core.Bool.{Bool, true, false, cond}
 use mathlib.Core.List.{List, []}
-use Prim.Native.Nat.{ℕ, zero, suc, _+_, _-_, _≤_}
+use Prim.Native.Nat.{ℕ, _+_, _-_, _≤_}
 use native.Mathlib.Omega.{arith}
 use lib.Dec.{T}
 use lib.ListN.{length, getD, take, drop}
 use lib.Seq.{length-take-le}
 use Rattle.counting.specs.Table.{Table, columns, tableOf}
-use Rattle.order.specs.Order.{Between, StepLimits, writtenStep}
-use Rattle.order.specs.Grammar.{readOrder}
-use Rattle.order.specs.Places.{stepAt, stepIn, operandsOf}
-use Rattle.order.specs.declared.Placed.the-variants.{Step as StepAt}
-use Rattle.order.proofs.Segment.{Segment, segment-fits}
-use Rattle.order.proofs.Stands.{step-stands, step-described}
+use Rattle.order.specs.Order.{Between}
+use Rattle.order.proofs.Segment.{segment-fits}
 use Rattle.sheets.specs.Sheet.{fromSources, SmallEnough, smallEnough}
 use Rattle.sheets.specs.Merge.{MergeFits, mergeFits, memberFault, mergeStep}
 use Rattle.sheets.specs.Steps.{filled, refused, provided, merge, operation, fits, wrongMember, applied, sized, afterSums, operate, laterStep}

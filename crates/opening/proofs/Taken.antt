@@ -6,7 +6,7 @@ use mathlib.Core.Option.{some, Option·map}
 use Prim.Native.Nat.{ℕ, _*_, _≤_, _<_}
 use native.Mathlib.Omega.{arith}
 use lib.ListN.{length, getD}
-use Rattle.counting.specs.Table.{Table, columns}
+use Rattle.counting.specs.Table.{columns}
 use Rattle.order.specs.Order.{IngredientNumber}
 use Rattle.order.specs.Grammar.{readOrder}
 use Rattle.order.proofs.Segment.{segment-in}

@@ -1,7 +1,7 @@
 -- Pieces that are scanned one after the other, and what they come to: the definition's reading of the whole text.
 -- Assumes nothing.
 use mathlib.Core.Path.{_≡_, sym, _∙_, ap}
-use mathlib.Core.List.{List, [], _∷_, _++_, foldl, foldl-append, flatten}
+use mathlib.Core.List.{List, [], _∷_, _++_, foldl-append, flatten}
 use Prim.Native.Nat.{ℕ}
 use lib.ListN.{length}
 use Rattle.text.specs.Words.{reading}

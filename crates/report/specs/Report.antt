@@ -1,7 +1,7 @@
 -- What is printed of an answer: document 01, "Printed runs".
 use mathlib.Core.List.{List, [], _∷_, map, flatMap}
 use Prim.Native.Nat.{ℕ, _+_, _*_, _≤_}
-use lib.ListN.{length, getD, take, drop}
+use lib.ListN.{length, take}
 use Rattle.counting.specs.Generator.{from}
 use Rattle.counting.specs.Table.{columns}
 use Rattle.text.specs.Lines.{refusedLine, printed, printedLines}

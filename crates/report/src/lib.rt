@@ -5,7 +5,7 @@ ghost use mathlib.Core.List.{[]};
 ghost use Prim.Native.Nat.{_+_, _≤_, _<_};
 ghost use lib.ListN.{length, getD, take};
 ghost use Rattle.buffers.specs.Put.{Put};
-ghost use Rattle.text.specs.Lines.{refusedLine, printedLines};
+ghost use Rattle.text.specs.Lines.{printedLines};
 ghost use Rattle.report.specs.Report.{refusalLine, answerLines, lineCount, Printable, Fitting};
 use sheets::answer::Answer;
 use sheets::answer::Refusal;

@@ -7,11 +7,11 @@ use mathlib.Core.List.{List}
 use mathlib.Core.Option.{Option, none, some}
 use Prim.Native.Nat.{ℕ}
 use Rattle.counting.specs.Table.{Table}
-use Rattle.order.specs.Order.{Order, All, WithinLimits, written}
+use Rattle.order.specs.Order.{Order, All}
 use Rattle.order.specs.Reader.{Parsed, value, refused as unread}
 use Rattle.order.specs.Grammar.{readOrder, Reads}
-use Rattle.order.specs.Range.{EntriesInRange, rangeOf}
-use Rattle.order.specs.declared.Entries.the-variants.{InRange, Unread}
+use Rattle.order.specs.Range.{rangeOf}
+use Rattle.order.specs.declared.Entries.the-variants.{Unread}
 use Rattle.order.proofs.OrderLaw.{reads-iff}
 use Rattle.order.proofs.InRange.{range-iff}
 use Rattle.sheets.specs.Sheet.{Sound, SmallEnough}

@@ -5,7 +5,6 @@ ghost use Prim.Native.Nat.{_+_, _*_, _≤_, _<_};
 ghost use lib.ListN.{length, replicate};
 ghost use Rattle.buffers.specs.Put.{Put};
 ghost use Rattle.counting.specs.Generator.{from, AllBelow};
-ghost use Rattle.counting.specs.Table.{columns as columnsOf};
 ghost use Rattle.ingredients.specs.Named.{tableIn, Legible};
 ghost use Rattle.sheets.specs.Sheet.{SmallEnough};
 ghost use Rattle.sheets.specs.Sum.{levelSum};

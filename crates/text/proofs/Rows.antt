@@ -8,7 +8,7 @@ use native.Mathlib.Omega.{arith}
 use lib.ListN.{length, getD, take, drop, length-drop}
 use lib.Seq.{take-suc, take-all}
 use Rattle.buffers.specs.Put.{Put}
-use Rattle.text.specs.Lines.{digits, spaced, line, refusedWord, refusedLine}
+use Rattle.text.specs.Lines.{digits, spaced, line}
 use Rattle.buffers.proofs.Puts.{put-none, put-join, put-length}
 
 spaced-snoc : (ns : List ℕ) (n : ℕ) → spaced (ns ++ (n ∷ [])) ≡ spaced ns ++ (32 ∷ digits n)

@@ -1,5 +1,5 @@
 -- `planner::print_answer` is safe and ends. The invariant: the buffer keeps its 1,024 bytes. The measure is the number of lines that are left.
-use mathlib.Core.Path.{_≡_, _∙_}
+use mathlib.Core.Path.{_≡_}
 use Prim.Native.Nat.{_-_}
 use native.Mathlib.Omega.{arith}
 use lib.ListN.{length}

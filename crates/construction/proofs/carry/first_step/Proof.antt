@@ -1,6 +1,5 @@
 -- `construction::carry::first_step` meets its contract: kinds 1 and 2 are carried out, any other is refused.
 use borrow.Author.Needs.{needs}
-use mathlib.Core.Path.{sym}
 use Rattle.layout.specs.Step.{Left}
 use Rattle.construction.proofs.Carrying.{first-refused}
 use Rattle.construction.proofs.carry.first_step.Statement.{statement}

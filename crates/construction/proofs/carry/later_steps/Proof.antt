@@ -1,6 +1,6 @@
 -- `construction::carry::later_steps` meets its contract. The invariant: a sheet is in the buffers from which the steps that are left come to what
 -- all steps come to.
-use mathlib.Core.Path.{_≡_, sym, _∙_}
+use mathlib.Core.Path.{_≡_, _∙_}
 use mathlib.Core.List.{List}
 use Prim.Native.Nat.{ℕ, _+_, _-_, _≤_}
 use native.Mathlib.Omega.{arith}
@@ -8,7 +8,6 @@ use borrow.Author.Needs.{needs}
 use lib.ListN.{length}
 use Rattle.order.specs.Grammar.{readOrder}
 use Rattle.order.specs.Places.{stepCount}
-use Rattle.layout.specs.Step.{Left}
 use Rattle.construction.specs.Carry.{Underway}
 use Rattle.layout.specs.declared.Size.{Size}
 use Rattle.construction.proofs.Carrying.{underway-ready, steps-counted, steps-few, step-refused, step-filled, none-left}
