@@ -19,6 +19,12 @@ mod text;
 
 pub use text::{print, scan};
 
+/// The lengths of run table, level list and scratch, in bytes.
+pub type Lengths = [usize; 3];
+
+/// The least lengths that question 1 lets through.
+pub const LEAST: Lengths = [65_536, 128, 65_536];
+
 /// What an order comes to.
 #[derive(Clone, Debug, PartialEq, Eq)]
 pub enum Answer {

@@ -5,7 +5,7 @@ mod draft;
 mod right;
 mod wrong;
 
-use crate::{plan, Answer};
+use crate::{plan, Answer, Lengths, LEAST};
 use draft::*;
 use right::*;
 use wrong::*;
@@ -55,29 +55,25 @@ impl Random {
 #[derive(Clone, Debug)]
 pub struct Call {
     pub list: Vec<u16>,
-    pub table_len: usize,
-    pub levels_len: usize,
-    pub scratch_len: usize,
+    pub lengths: Lengths,
 }
+
+/// The longest buffers that a call is made with: a program that tries the calls on the proved
+/// planner has buffers of a fixed size, and lends the beginnings of these.
+pub const MOST: Lengths = [66_048, 256, 66_048];
 
 impl Call {
     /// The list with buffers just long enough.
     pub fn of(list: Vec<u16>) -> Call {
         Call {
             list,
-            table_len: 65_536,
-            levels_len: 128,
-            scratch_len: 65_536,
+            lengths: LEAST,
         }
     }
 
     pub fn answer(&self) -> Answer {
-        plan(
-            &self.list,
-            self.table_len,
-            self.levels_len,
-            self.scratch_len,
-        )
+        let [table_len, levels_len, scratch_len] = self.lengths;
+        plan(&self.list, table_len, levels_len, scratch_len)
     }
 }
 

@@ -26,9 +26,9 @@ fn main() -> std::io::Result<()> {
         writeln!(
             out,
             "{index} | {} {} {} | {}{} | {}",
-            call.table_len,
-            call.levels_len,
-            call.scratch_len,
+            call.lengths[0],
+            call.lengths[1],
+            call.lengths[2],
             call.list.len(),
             words(&call.list),
             answer_words(&answer)

@@ -2,8 +2,9 @@
 
 use super::draft::*;
 use super::right::*;
-use super::{Call, Random};
+use super::{Call, Random, MOST};
 use crate::order::Table;
+use crate::LEAST;
 
 /// Adds a step that reads well but should not be carried out, or not surely.
 pub fn wrong_step(random: &mut Random, draft: &mut Draft) {
@@ -562,15 +563,12 @@ pub fn random_list(random: &mut Random) -> Vec<u16> {
 /// Short or long buffers.
 pub fn change_buffers(random: &mut Random, call: &mut Call) {
     for _ in 0..random.pick(&[1, 1, 1, 2]) {
-        let (length, least) = match random.below(3) {
-            0 => (&mut call.table_len, 65_536),
-            1 => (&mut call.levels_len, 128),
-            _ => (&mut call.scratch_len, 65_536),
-        };
-        *length = match random.below(4) {
+        let buffer = random.below(3);
+        let least = LEAST[buffer];
+        call.lengths[buffer] = match random.below(4) {
             0 | 1 => least - 1,
             2 => random.below(least),
-            _ => least + random.between(1, 300),
+            _ => random.between(least + 1, MOST[buffer]),
         };
     }
 }
