@@ -6,7 +6,8 @@
 //! - `steps`: questions 5 to 8 and what each step leaves;
 //! - `field`: sums and products of the seven fields;
 //! - `text`: words in, printed runs out;
-//! - `maker`: random orders for the vectors and the tests; the planner does not use it.
+//! - `maker`: random orders for the vectors and the tests; the planner does not use it;
+//! - `records`: orders with their answers as stored texts; the planner does not use it.
 
 #![forbid(unsafe_code)]
 
@@ -14,6 +15,7 @@ mod counting;
 pub mod field;
 pub mod maker;
 pub mod order;
+pub mod records;
 mod steps;
 mod text;
 
@@ -55,6 +57,15 @@ pub fn plan(list: &[u16], table_len: usize, levels_len: usize, scratch_len: usiz
             levels: sheet.levels.iter().map(|&level| level as u8).collect(),
             table: sheet.runs.concat().iter().map(|&cell| cell as u8).collect(),
         },
+        Err(refusal) => refusal,
+    }
+}
+
+/// The answer to an order's text: the refusal of a word of it, or what the list of its words comes
+/// to.
+pub fn plan_text(text: &[u8], [table_len, levels_len, scratch_len]: Lengths) -> Answer {
+    match scan(text) {
+        Ok(list) => plan(&list, table_len, levels_len, scratch_len),
         Err(refusal) => refusal,
     }
 }

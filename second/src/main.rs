@@ -7,9 +7,6 @@ use std::io::{stdin, stdout, Read, Write};
 fn main() -> std::io::Result<()> {
     let mut input = Vec::new();
     stdin().read_to_end(&mut input)?;
-    let answer = match second::scan(&input) {
-        Ok(list) => second::plan(&list, 65_536, 128, 65_536),
-        Err(refusal) => refusal,
-    };
+    let answer = second::plan_text(&input, second::LEAST);
     stdout().write_all(second::print(&answer).as_bytes())
 }

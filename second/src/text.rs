@@ -53,7 +53,8 @@ pub fn print(answer: &Answer) -> String {
     }
 }
 
-fn spaced(numbers: &[impl Display]) -> String {
+/// The numbers with single spaces between.
+pub(crate) fn spaced(numbers: &[impl Display]) -> String {
     let words: Vec<String> = numbers.iter().map(|number| number.to_string()).collect();
     words.join(" ")
 }

@@ -1,63 +1,19 @@
-//! Prints test vectors, a line for each: index | lengths of run table, level list and scratch |
-//! how many numbers, and these | answer. An answer is `F N m`, the level counts and the cells run
-//! by run, or `R`, the number and the six details. A summary goes to standard error.
+//! Prints the vectors as a text of records. A summary goes to standard error.
 
 #![forbid(unsafe_code)]
 
-use second::maker::{edge_calls, large_calls, make, Call};
+use second::maker::Call;
 use second::order::{self, Ingredient, Step};
-use second::Answer;
+use second::{records, Answer};
 use std::collections::BTreeMap;
-use std::io::{stdout, BufWriter, Write};
-
-const SEED: u64 = 20_260_101;
-const RANDOM: u64 = 3_000;
+use std::io::{stdout, Write};
 
 fn main() -> std::io::Result<()> {
-    let mut calls: Vec<Call> = (0..RANDOM).map(|index| make(SEED + index)).collect();
-    calls.extend(edge_calls());
-    calls.extend(large_calls());
-
-    let mut out = BufWriter::new(stdout().lock());
     let mut summary = Summary::default();
-    for (index, call) in calls.iter().enumerate() {
-        let answer = call.answer();
-        summary.note(call, &answer);
-        writeln!(
-            out,
-            "{index} | {} {} {} | {}{} | {}",
-            call.lengths[0],
-            call.lengths[1],
-            call.lengths[2],
-            call.list.len(),
-            words(&call.list),
-            answer_words(&answer)
-        )?;
-    }
-    out.flush()?;
+    let text = records::vectors(|call, answer| summary.note(call, answer));
+    stdout().write_all(text.as_bytes())?;
     summary.print();
     Ok(())
-}
-
-/// Every number with a space before it.
-fn words(numbers: &[impl ToString]) -> String {
-    numbers
-        .iter()
-        .map(|number| format!(" {}", number.to_string()))
-        .collect()
-}
-
-fn answer_words(answer: &Answer) -> String {
-    match answer {
-        Answer::Filled {
-            runs,
-            levels,
-            table,
-        } => {
-            format!("F {runs} {}{}{}", levels.len(), words(levels), words(table))
-        }
-        Answer::Refused { number, details } => format!("R {number}{}", words(details)),
-    }
 }
 
 /// Counts: for steps and fields, how many were reached, and how many of them in filled orders.

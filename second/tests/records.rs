@@ -1,0 +1,200 @@
+//! The stored texts of records: they are what is made here, and they are well formed.
+
+use second::maker::MOST;
+use second::order::{self, Ingredient, Step};
+use second::{plan_text, print, records, scan, Lengths, LEAST};
+use std::collections::BTreeMap;
+
+/// The comparing program's room for a text is a little more.
+const MOST_BYTES: usize = 2_000_000;
+
+fn stored(program: &str) -> String {
+    let path = format!("{}/../crates/{program}/stdin", env!("CARGO_MANIFEST_DIR"));
+    std::fs::read_to_string(path).unwrap()
+}
+
+/// Compares line by line, as the texts are too long to be shown whole.
+fn assert_same(stored: &str, made: &str) {
+    for (index, (old, new)) in stored.split('\n').zip(made.split('\n')).enumerate() {
+        assert_eq!(old, new, "line {}", index + 1);
+    }
+    assert_eq!(stored.len(), made.len());
+}
+
+#[test]
+fn stored_vectors_are_those_made() {
+    assert_same(&stored("vectors"), &records::vectors(|_, _| {}));
+}
+
+/// A record as it stands in a text, and the remark before it, if there is one.
+struct Record<'a> {
+    name: Option<&'a str>,
+    lengths: Lengths,
+    order: &'a str,
+    answer: Vec<&'a str>,
+}
+
+/// The records that stand after the remark on the first line.
+fn read(text: &str) -> Vec<Record<'_>> {
+    assert!(text.is_ascii() && text.len() < MOST_BYTES);
+    assert!(text.starts_with("# ") && text.ends_with("\n;\n"));
+    let mut lines = text.split_terminator('\n').skip(1);
+    let mut records = Vec::new();
+    let mut name = None;
+    let mut lengths = LEAST;
+    while let Some(line) = lines.next() {
+        if let Some(words) = line.strip_prefix("# ") {
+            assert_eq!(name.replace(words), None, "two remarks: {words}");
+        } else if let Some(words) = line.strip_prefix("@ ") {
+            lengths = lengths_of(&numbers(words));
+        } else {
+            records.push(Record {
+                name: name.take(),
+                lengths,
+                order: line.strip_suffix(" =").expect(line),
+                answer: lines.by_ref().take_while(|line| *line != ";").collect(),
+            });
+        }
+    }
+    records
+}
+
+/// Decimal numbers without leading zeros, single spaces between.
+fn numbers(line: &str) -> Vec<usize> {
+    let number = |word: &str| {
+        let value: usize = word.parse().expect(line);
+        assert_eq!(value.to_string(), word);
+        value
+    };
+    line.split(' ').map(number).collect()
+}
+
+fn lengths_of(halves: &[usize]) -> Lengths {
+    assert_eq!(halves.len(), 6);
+    assert!(halves.iter().all(|half| *half < 65_536));
+    let lengths = [0, 2, 4].map(|half| 65_536 * halves[half] + halves[half + 1]);
+    assert!((0..3).all(|buffer| lengths[buffer] <= MOST[buffer]));
+    lengths
+}
+
+fn assert_printed(answer: &[&str]) {
+    let Some(refusal) = answer[0].strip_prefix("refused ") else {
+        return assert_filled(answer);
+    };
+    assert_eq!(answer.len(), 1);
+    let refusal = numbers(refusal);
+    assert_eq!(refusal.len(), 7);
+    assert!((1..=11).contains(&refusal[0]));
+}
+
+fn assert_filled(answer: &[&str]) {
+    let size = numbers(answer[0]);
+    let levels = numbers(answer[1]);
+    assert_eq!(size, [answer.len() - 2, levels.len()]);
+    for run in &answer[2..] {
+        let run = numbers(run);
+        assert_eq!(run.len(), levels.len());
+        assert!(run.iter().zip(&levels).all(|(cell, level)| cell < level));
+    }
+}
+
+/// Where a record's lengths are not those of the record before it.
+fn changes_of_lengths(records: &[Record]) -> usize {
+    let mut before = LEAST;
+    let mut changes = 0;
+    for record in records {
+        changes += usize::from(record.lengths != before);
+        before = record.lengths;
+    }
+    changes
+}
+
+fn assert_well_formed(text: &str) {
+    let records = read(text);
+    for record in &records {
+        assert_printed(&record.answer);
+    }
+    let lines = text.lines().filter(|line| line.starts_with('@'));
+    assert_eq!(lines.count(), changes_of_lengths(&records));
+}
+
+#[test]
+fn texts_are_well_formed() {
+    assert_well_formed(&stored("vectors"));
+}
+
+/// The stored texts as another program reads them: order and lengths give the answer.
+fn assert_answers(text: &str) {
+    for record in read(text) {
+        let answer = plan_text(record.order.as_bytes(), record.lengths);
+        let printed = record.answer.join("\n") + "\n";
+        assert_eq!(print(&answer), printed, "{}", record.order);
+    }
+}
+
+#[test]
+fn answers_are_those_of_the_orders() {
+    assert_answers(&stored("vectors"));
+}
+
+#[test]
+fn vectors_are_numbers_alone() {
+    let text = stored("vectors");
+    for record in read(&text) {
+        assert_eq!(record.name, None);
+        // An order of no numbers has no words either.
+        if !record.order.is_empty() {
+            numbers(record.order);
+        }
+    }
+}
+
+/// "filled", or "refused" and the number.
+fn kind_of_answer(record: &Record) -> String {
+    match record.answer[0].strip_prefix("refused ") {
+        Some(refusal) => format!("refused {}", numbers(refusal)[0]),
+        None => "filled".to_string(),
+    }
+}
+
+/// The steps of a filled order: the kind of each, FIELD with its s and MERGE with its p.
+fn kinds_of_steps(order: &str) -> Vec<String> {
+    let order = order::read(&scan(order.as_bytes()).unwrap()).unwrap();
+    let kind = |step: &Step| match step {
+        Step::Take { .. } => "TAKE".to_string(),
+        Step::Field { generator } => match &order.ingredients[generator - 1] {
+            Ingredient::Generator(generator) => format!("FIELD {}", generator.s),
+            other => panic!("{other:?}"),
+        },
+        Step::Sum { .. } => "SUM".to_string(),
+        Step::Merge { p, .. } => format!("MERGE {p}"),
+        Step::Split { .. } => "SPLIT".to_string(),
+    };
+    order.steps.iter().map(kind).collect()
+}
+
+#[test]
+fn vectors_reach_everything_often() {
+    let text = stored("vectors");
+    let vectors = read(&text);
+    let mut times: BTreeMap<String, usize> = BTreeMap::new();
+    for record in &vectors {
+        let kind = kind_of_answer(record);
+        if kind == "filled" {
+            for step in kinds_of_steps(record.order) {
+                *times.entry(step).or_default() += 1;
+            }
+        }
+        *times.entry(kind).or_default() += 1;
+    }
+
+    let mut wanted: Vec<String> = ["TAKE", "SUM", "SPLIT"].map(str::to_string).to_vec();
+    wanted.extend((1..=11).map(|number| format!("refused {number}")));
+    wanted.extend([2, 3, 4, 5, 7, 8, 9].map(|s| format!("FIELD {s}")));
+    wanted.extend([2, 3, 5, 7].map(|p| format!("MERGE {p}")));
+    for kind in wanted {
+        assert!(times.get(&kind) > Some(&40), "{kind}: {times:?}");
+    }
+    assert!(vectors.len() > 2_000);
+    assert!(times["filled"] > vectors.len() * 3 / 10);
+}
