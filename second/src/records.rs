@@ -8,8 +8,10 @@
 //! - A record is the text of an order, ` =` and a line feed, then what the program prints for the
 //!   order, then a line of `;`.
 
+mod examples;
 mod vectors;
 
+pub use examples::examples;
 pub use vectors::vectors;
 
 use crate::text::spaced;

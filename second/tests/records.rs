@@ -3,7 +3,7 @@
 use second::maker::MOST;
 use second::order::{self, Ingredient, Step};
 use second::{plan_text, print, records, scan, Lengths, LEAST};
-use std::collections::BTreeMap;
+use std::collections::{BTreeMap, BTreeSet};
 
 /// The comparing program's room for a text is a little more.
 const MOST_BYTES: usize = 2_000_000;
@@ -24,6 +24,11 @@ fn assert_same(stored: &str, made: &str) {
 #[test]
 fn stored_vectors_are_those_made() {
     assert_same(&stored("vectors"), &records::vectors(|_, _| {}));
+}
+
+#[test]
+fn stored_examples_are_those_made() {
+    assert_same(&stored("examples"), &records::examples());
 }
 
 /// A record as it stands in a text, and the remark before it, if there is one.
@@ -121,6 +126,7 @@ fn assert_well_formed(text: &str) {
 #[test]
 fn texts_are_well_formed() {
     assert_well_formed(&stored("vectors"));
+    assert_well_formed(&stored("examples"));
 }
 
 /// The stored texts as another program reads them: order and lengths give the answer.
@@ -135,6 +141,7 @@ fn assert_answers(text: &str) {
 #[test]
 fn answers_are_those_of_the_orders() {
     assert_answers(&stored("vectors"));
+    assert_answers(&stored("examples"));
 }
 
 #[test]
@@ -146,6 +153,16 @@ fn vectors_are_numbers_alone() {
         if !record.order.is_empty() {
             numbers(record.order);
         }
+    }
+}
+
+#[test]
+fn examples_have_names_of_their_own() {
+    let text = stored("examples");
+    let mut names = BTreeSet::new();
+    for record in read(&text) {
+        let name = record.name.expect(record.order);
+        assert!(names.insert(name), "{name} twice");
     }
 }
 
@@ -173,6 +190,19 @@ fn kinds_of_steps(order: &str) -> Vec<String> {
     order.steps.iter().map(kind).collect()
 }
 
+fn refusals() -> impl Iterator<Item = String> {
+    (1..=11).map(|number| format!("refused {number}"))
+}
+
+#[test]
+fn examples_reach_every_refusal() {
+    let text = stored("examples");
+    let kinds: Vec<String> = read(&text).iter().map(kind_of_answer).collect();
+    for refusal in refusals() {
+        assert!(kinds.contains(&refusal), "{refusal}");
+    }
+}
+
 #[test]
 fn vectors_reach_everything_often() {
     let text = stored("vectors");
@@ -189,7 +219,7 @@ fn vectors_reach_everything_often() {
     }
 
     let mut wanted: Vec<String> = ["TAKE", "SUM", "SPLIT"].map(str::to_string).to_vec();
-    wanted.extend((1..=11).map(|number| format!("refused {number}")));
+    wanted.extend(refusals());
     wanted.extend([2, 3, 4, 5, 7, 8, 9].map(|s| format!("FIELD {s}")));
     wanted.extend([2, 3, 5, 7].map(|p| format!("MERGE {p}")));
     for kind in wanted {
