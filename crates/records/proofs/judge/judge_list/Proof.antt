@@ -1,0 +1,56 @@
+-- `judge_list` is safe: the lengths are within the buffers.
+use mathlib.Core.Path.{sym}
+use lib.ListN.{length-replicate}
+use lib.Seq.{length-take-le}
+use borrow.Author.Needs.{needs}
+use Rattle.records.proofs.judge.judge_list.Statement.{statement}
+use Rattle.records.proofs.judge.judge_list.Tie as tie
+
+within-requires : tie.Need-within-requires
+within-requires c κs = search needs
+
+within-requires-2 : tie.Need-within-requires-2
+within-requires-2 c κs = search needs
+
+within-requires-3 : tie.Need-within-requires-3
+within-requires-3 c κs = search needs
+
+array-borrow-prefix-table : tie.Need-array-borrow-prefix-table
+array-borrow-prefix-table c = search needs
+
+slice-aggregate-judge-in : tie.Need-slice-aggregate-judge-in
+slice-aggregate-judge-in c = sym (length-take-le _ _ (rw (length-replicate) (c .before .before .before .within .ensures)))
+
+array-borrow-prefix-levels : tie.Need-array-borrow-prefix-levels
+array-borrow-prefix-levels c = search needs
+
+slice-aggregate-judge-in-2 : tie.Need-slice-aggregate-judge-in-2
+slice-aggregate-judge-in-2 c = sym (length-take-le _ _ (rw (length-replicate) (c .before .before .before .within2 .ensures)))
+
+array-borrow-prefix-scratch : tie.Need-array-borrow-prefix-scratch
+array-borrow-prefix-scratch c = search needs
+
+slice-aggregate-judge-in-3 : tie.Need-slice-aggregate-judge-in-3
+slice-aggregate-judge-in-3 c = sym (length-take-le _ _ (rw (length-replicate) (c .before .before .before .within3 .ensures)))
+
+judge-in-requires : tie.Need-judge-in-requires
+judge-in-requires c κs = search needs
+
+returns : tie.Need-returns
+returns c = search needs
+
+pub judge-list-spec : {M : Type 1} → statement M
+judge-list-spec =
+    tie.close
+    (tie.spec
+    within-requires
+    within-requires-2
+    within-requires-3
+    array-borrow-prefix-table
+    slice-aggregate-judge-in
+    array-borrow-prefix-levels
+    slice-aggregate-judge-in-2
+    array-borrow-prefix-scratch
+    slice-aggregate-judge-in-3
+    judge-in-requires
+    returns)
