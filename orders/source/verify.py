@@ -5,14 +5,17 @@ of every two columns in runs / (s * t) runs. A matrix passes when, for every two
 differences modulo p, first minus second, take each value rows / p times. Columns are named
 from 1, levels and differences from 0. A matrix that its comment places over GF(4), and that
 fails modulo 4, is counted again with the differences of GF(4), which are exclusive ors.
+A generator passes when no coefficients but all zeros combine the columns of two factors to zero.
 
 The last line sums up, and the exit status is 0 when every block passes, or, where its comment
 says that it does not pass modulo p, fails modulo p and passes over GF(4).
 """
 
 import sys
-from itertools import combinations
+from itertools import combinations, product
 from pathlib import Path
+
+from fields import row_times
 
 
 def read_blocks(text):
@@ -73,23 +76,52 @@ def matrix_failure(rows, p, difference):
     return None
 
 
+def generator_failure(rows, s, sizes):
+    """The first two factors, or the only one, whose columns depend on each other, or None."""
+    starts = [sum(sizes[:i]) for i in range(len(sizes))]
+    columns = [range(start, start + u) for start, u in zip(starts, sizes)]
+    for factors in combinations(range(len(sizes)), min(2, len(sizes))):
+        chosen = [[row[c] for i in factors for c in columns[i]] for row in rows]
+        for coefficients in product(range(s), repeat=len(chosen[0])):
+            if any(coefficients) and not any(row_times(s, row, coefficients) for row in chosen):
+                named = " ".join(str(i + 1) for i in factors)
+                return f"factors {named}, coefficients {' '.join(map(str, coefficients))}"
+    return None
+
+
+def limits_of(kind, column_count, rest):
+    """For each column of entries, the number that they are below; rest is a header after its two sizes."""
+    if kind == "table":
+        return rest
+    if kind == "matrix":
+        return rest * column_count
+    return rest[:1] * sum(rest[1:])
+
+
+def header_fits(kind, column_count, rest):
+    return len(rest) == {"table": column_count, "matrix": 1, "generator": 1 + column_count}.get(kind)
+
+
+def failure_of(kind, rest, rows):
+    """What the count finds, or None."""
+    if kind == "table":
+        return table_failure(rows, rest)
+    if kind == "matrix":
+        return matrix_failure(rows, rest[0], lambda x, y: (x - y) % rest[0])
+    return generator_failure(rows, rest[0], rest[1:])
+
+
 def check(comments, kind, name, sizes, rows):
     """Returns the line to print and whether the block is as its comment says."""
     row_count, column_count, rest = sizes[0], sizes[1], sizes[2:]
-    if kind == "table":
-        limits = rest if len(rest) == column_count else []
-    else:
-        limits = rest * column_count if kind == "matrix" and len(rest) == 1 else []
-    if len(limits) != column_count:
+    if not header_fits(kind, column_count, rest):
         return f"{name} fails: bad header", False
-    failure = shape_failure(rows, row_count, column_count, limits)
-    if failure is None and kind == "table":
-        failure = table_failure(rows, limits)
-    elif failure is None:
-        p = rest[0]
-        failure = matrix_failure(rows, p, lambda x, y: (x - y) % p)
-        if failure and p == 4 and "over GF(4), does not pass modulo 4" in comments:
-            over_field = matrix_failure(rows, p, lambda x, y: x ^ y)
+    limits = limits_of(kind, column_count, rest)
+    failure = shape_failure(rows, row_count, len(limits), limits)
+    if failure is None:
+        failure = failure_of(kind, rest, rows)
+        if failure and "over GF(4), does not pass modulo 4" in comments:
+            over_field = matrix_failure(rows, rest[0], lambda x, y: x ^ y)
             verdict = f"fails too: {over_field}" if over_field else "passes"
             return f"{name} fails modulo 4: {failure}; over GF(4) it {verdict}", over_field is None
     return (f"{name} fails: {failure}", False) if failure else (f"{name} passes", True)
