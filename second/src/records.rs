@@ -8,9 +8,11 @@
 //! - A record is the text of an order, ` =` and a line feed, then what the program prints for the
 //!   order, then a line of `;`.
 
+mod catalogue;
 mod examples;
 mod vectors;
 
+pub use catalogue::catalogue;
 pub use examples::examples;
 pub use vectors::vectors;
 

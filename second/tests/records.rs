@@ -4,8 +4,9 @@ use second::maker::MOST;
 use second::order::{self, Ingredient, Step};
 use second::{plan_text, print, records, scan, Lengths, LEAST};
 use std::collections::{BTreeMap, BTreeSet};
+use std::path::Path;
 
-/// The comparing program's room for a text is a little more.
+/// A limit of this repository's own: the comparing program reads texts of any length.
 const MOST_BYTES: usize = 2_000_000;
 
 fn stored(program: &str) -> String {
@@ -29,6 +30,15 @@ fn stored_vectors_are_those_made() {
 #[test]
 fn stored_examples_are_those_made() {
     assert_same(&stored("examples"), &records::examples());
+}
+
+#[test]
+fn stored_catalogue_is_that_made() {
+    let orders = format!("{}/../orders", env!("CARGO_MANIFEST_DIR"));
+    assert_same(
+        &stored("catalogue"),
+        &records::catalogue(Path::new(&orders)).unwrap(),
+    );
 }
 
 /// A record as it stands in a text, and the remark before it, if there is one.
