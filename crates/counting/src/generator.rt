@@ -3,8 +3,9 @@
 use crate::pairs::IndexPair;
 use crate::verdict::DependenceFault;
 use crate::verdict::GeneratorFinding;
+use finite::power;
 ghost use mathlib.Core.Path.{_≡_};
-ghost use Prim.Native.Nat.{_+_, _*_, _^_, _≤_, _<_};
+ghost use Prim.Native.Nat.{_+_, _*_, _≤_, _<_};
 ghost use lib.ListN.{length, getD};
 ghost use Rattle.finite.specs.Sum.{sum};
 ghost use Rattle.finite.specs.First.{firstPair};
@@ -116,7 +117,7 @@ fn least_dependence(
     requires { ⌜ BlocksIn (now entries) t row s one other ⌝ }
     ensures { λ r. ⌜ r ≡ asDependence (dependence (fieldSum s) (fieldProduct s) (gridOf (now (entries .entry)) t row s) (blockColumns one other)) ⌝ }
 {
-    let end = power(s, one.width) * power(s, other.width);
+    let end = power(s as usize, one.width) * power(s as usize, other.width);
     let mut coefficients = 1;
     while coefficients < end {
         if combines_to_zero(entries, t, row, s, one, other, coefficients) {
@@ -125,20 +126,6 @@ fn least_dependence(
         coefficients += 1;
     }
     Dependence::Nothing
-}
-
-// s to the n-th power.
-fn power(s: u8, n: usize) -> usize
-    requires { ⌜ (0 < s) × (s ^ n ≤ 64) ⌝ }
-    ensures { λ r. ⌜ r ≡ s ^ n ⌝ }
-{
-    let mut product = 1;
-    let mut i = 0;
-    while i < n {
-        product *= s as usize;
-        i += 1;
-    }
-    product
 }
 
 // Whether the coefficients combine the columns of two blocks to zero in every row.

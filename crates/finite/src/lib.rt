@@ -1,2 +1,17 @@
-// Counts and sums over the numbers below n, for the proofs of the crates above. There is no code here: the definitions are in
-// specs/, their laws in proofs/.
+// Powers; and counts and sums over the numbers below n, for the proofs of the crates above: their definitions are in specs/, their laws in proofs/.
+ghost use mathlib.Core.Path.{_≡_};
+ghost use Prim.Native.Nat.{_^_, _≤_, _<_};
+
+// s to the n-th power.
+pub fn power(s: usize, n: usize) -> usize
+    requires { ⌜ (0 < s) × (s ^ n ≤ 4294967296) ⌝ }
+    ensures { λ r. ⌜ r ≡ s ^ n ⌝ }
+{
+    let mut product = 1;
+    let mut i = 0;
+    while i < n {
+        product *= s;
+        i += 1;
+    }
+    product
+}

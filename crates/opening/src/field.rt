@@ -12,6 +12,7 @@ ghost use Rattle.layout.specs.Bytes.{Zeros, padded, runOf, runsOf};
 ghost use Rattle.layout.specs.Step.{Readable, Stands, firstIn, Left};
 ghost use Rattle.opening.specs.FieldPlaces.{GeneratorStands, TupleOf, ColumnsIn, generatorIn};
 use buffers::put_byte;
+use finite::power;
 use order::Located;
 use order::places::ingredient_at;
 use sheets::answer::Answer;
@@ -67,24 +68,10 @@ fn fill(list: &[u16], g: GeneratorAt, table: &mut [u8], levels: &mut [u8]) -> An
     requires { ⌜ (128 ≤ length (now levels)) × Zeros (now levels) ⌝ }
     ensures { λ r. ⌜ Left (filled (fieldStep (generatorIn (now (list .entry)) g))) r (now (table .exit)) (now (levels .exit)) ⌝ }
 {
-    let runs = power(g.s, g.t);
+    let runs = power(g.s as usize, g.t);
     put_levels(list, g, levels);
     put_runs(list, g, runs, table);
     Answer::Filled { runs, columns: g.n }
-}
-
-// s to the n-th power.
-fn power(s: u8, n: usize) -> usize
-    requires { ⌜ (0 < s) × (s ^ n ≤ 512) ⌝ }
-    ensures { λ r. ⌜ r ≡ s ^ n ⌝ }
-{
-    let mut product = 1;
-    let mut i = 0;
-    while i < n {
-        product *= s as usize;
-        i += 1;
-    }
-    product
 }
 
 // The level counts: s to the power of its width for each factor.
@@ -97,7 +84,7 @@ fn put_levels(list: &[u16], g: GeneratorAt, levels: &mut [u8]) -> usize
     let mut factor = 0;
     while factor < g.n {
         let width = list[widths_at + factor] as usize;
-        put_byte(levels, factor, power(g.s, width) as u8);
+        put_byte(levels, factor, power(g.s as usize, width) as u8);
         factor += 1;
     }
     factor

@@ -1,17 +1,14 @@
 -- Bounds on small powers.
-use mathlib.Core.Path.{_≡_, sym}
-use Prim.Native.Nat.{ℕ, suc, _*_, _^_, _≤_, _<_}
-use native.Mathlib.Nat.{pow-suc, pow-le-pow-left, pow-le-pow-right, le-trans, lt-of-le-of-lt, lt-of-lt-of-le, mul-le-mul}
+use Prim.Native.Nat.{ℕ, _*_, _^_, _≤_, _<_}
+use native.Mathlib.Nat.{pow-le-pow-left, pow-le-pow-right, le-trans, lt-of-le-of-lt, lt-of-lt-of-le, mul-le-mul}
 use native.Mathlib.Omega.{arith}
 use native.Mathlib.Decide.{decLe}
-use lib.Dec.{lit<}
+use lib.Dec.{lit<, lit≤}
 use Rattle.order.specs.Order.{Width}
 
--- A power with base and exponent below 9, times its base, is far below 2^64.
-pub small-power : {r s i : ℕ} → r ≡ s ^ i → s ≤ 9 → i < 9 → r * s < 2 ^ 64
-small-power {r} {s} {i} e hs hi =
-    let next : r * s ≡ s ^ suc i = rw e (sym (pow-suc s i)) in
-    rw next (lt-of-le-of-lt (le-trans (pow-le-pow-left hs (suc i)) (pow-le-pow-right {n = 9} (omega arith) hi)) (lit< tt))
+-- A power with base and exponent up to 9 is far below 2^32.
+pub small-power : (s n : ℕ) → s ≤ 9 → n ≤ 9 → s ^ n ≤ 4294967296
+small-power s n hs hn = le-trans (le-trans (pow-le-pow-left hs n) (pow-le-pow-right {n = 9} (omega arith) hn)) (lit≤ tt)
 
 -- Of a base from 2 on, no exponent over 6 has a power of at most 64.
 pub large-power : (s u : ℕ) → 2 ≤ s → 6 < u → 64 < s ^ u

@@ -1,6 +1,6 @@
 // Single numbers of the list, each with the test that its place in an order asks for, and series of them.
 ghost use mathlib.Core.Path.{_≡_};
-ghost use Prim.Native.Nat.{_-_, _^_, _≤_};
+ghost use Prim.Native.Nat.{_-_, _≤_};
 ghost use lib.ListN.{length, getD};
 ghost use Rattle.order.specs.Reader.{allowed, numbers, times};
 ghost use Rattle.order.specs.Grammar.{between, fieldSize, width, mergePrime, ingredientNumber, noneOrIngredient};
@@ -8,6 +8,7 @@ ghost use Rattle.order.specs.Answers.{numberOf, totalOf, walkOf};
 use crate::Cursor;
 use crate::Number;
 use crate::Walk;
+use finite::power;
 
 // The number at the cursor, or 0 past the end.
 fn peek(list: &[u16], c: Cursor) -> usize
@@ -52,20 +53,6 @@ pub(crate) fn number(list: &[u16], c: Cursor, low: usize, high: usize) -> Number
     ensures { λ r. ⌜ r ≡ numberOf (allowed (between low high) (now (list .entry)) (c .at)) ⌝ }
 {
     accept(list, c, within(peek(list, c), low, high))
-}
-
-// The power s^n.
-fn power(s: usize, n: usize) -> usize
-    requires { ⌜ (s ≤ 9) × (n ≤ 9) ⌝ }
-    ensures { λ r. ⌜ r ≡ s ^ n ⌝ }
-{
-    let mut r = 1;
-    let mut i = 0;
-    while i < n {
-        r *= s;
-        i += 1;
-    }
-    r
 }
 
 // Whether s is the size of a field, with s^t at most 512.

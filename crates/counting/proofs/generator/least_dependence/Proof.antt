@@ -3,9 +3,9 @@
 use mathlib.Core.Path.{_≡_, sym, _∙_, ap}
 use mathlib.Core.Bool.{false}
 use Prim.Native.Nat.{ℕ, _-_, _*_, _^_, _≤_, _<_}
-use native.Mathlib.Nat.{lt-of-lt-of-le, lt-of-le-of-lt, mul-le-mul}
+use native.Mathlib.Nat.{le-trans, lt-of-lt-of-le, lt-of-le-of-lt, mul-le-mul}
 use native.Mathlib.Omega.{arith}
-use lib.Dec.{lit<}
+use lib.Dec.{lit<, lit≤}
 use lib.ListN.{length}
 use Rattle.finite.proofs.Firsts.{between-more}
 use Rattle.galois.specs.Arithmetic.{fieldSum, fieldProduct}
@@ -28,10 +28,10 @@ abbrev μ-loop : tie.MeasureT-loop
 μ-loop entries t row s one other end coefficients₀ coefficients = end - coefficients
 
 power-requires : tie.Need-power-requires Inv-loop μ-loop
-power-requires c κs = (size-positive _ (c .before .pre .size), c .before .pre .one-power)
+power-requires c κs = (size-positive _ (c .before .pre .size), le-trans (c .before .pre .one-power) (lit≤ tt))
 
 power-requires-2 : tie.Need-power-requires-2 Inv-loop μ-loop
-power-requires-2 c κs = (size-positive _ (c .before .before .pre .size), c .before .before .pre .other-power)
+power-requires-2 c κs = (size-positive _ (c .before .before .pre .size), le-trans (c .before .before .pre .other-power) (lit≤ tt))
 
 lists-few : (c : tie.After-power2 Inv-loop μ-loop)
     → c .before .before .before .args .s ^ c .before .before .before .args .one .width * c .before .before .before .args .s ^ c .before .before .before .args .other .width ≤ 4096

@@ -35,20 +35,23 @@ shared-slice-read-width c = let k = c .before .before .before .before .before .b
 cast-width : tie.Need-cast-width Inv-loop μ-loop
 cast-width c = omega (arith, c .shared-slice-known2 .given (c .before .before .before .before .before .before .args .g .«widths_at» + c .before .before .before .loop .factor))
 
+cast-power : tie.Need-cast-power Inv-loop μ-loop
+cast-power c = search needs
+
 power-requires : tie.Need-power-requires Inv-loop μ-loop
 power-requires c κs =
-    let k = c .before .before .before .before .before .before .before .pre .0 in
-    (size-positive _ (k .size), omega (arith, width-power k _ (c .before .before .if1 .taken)))
+    let k = c .before .before .before .before .before .before .before .before .pre .0 in
+    (size-positive _ (k .size), omega (arith, width-power k _ (c .before .before .before .if1 .taken)))
 
 cast-put-byte : tie.Need-cast-put-byte Inv-loop μ-loop
 cast-put-byte c =
-    let k = c .before .before .before .before .before .before .before .before .pre .0 in
-    rw (c .power .ensures) (omega (arith, width-power k _ (c .before .before .before .if1 .taken)))
+    let k = c .before .before .before .before .before .before .before .before .before .pre .0 in
+    rw (c .power .ensures) (omega (arith, width-power k _ (c .before .before .before .before .if1 .taken)))
 
 put-byte-requires : tie.Need-put-byte-requires Inv-loop μ-loop
 put-byte-requires c κs =
-    let start = c .before .before .before .before .before .before .before .before in
-    omega (arith, put-length (c .before .before .before .before .before .loop .inv .1), start .pre .0 .factors-most, start .pre .1)
+    let start = c .before .before .before .before .before .before .before .before .before in
+    omega (arith, put-length (c .before .before .before .before .before .before .loop .inv .1), start .pre .0 .factors-most, start .pre .1)
 
 add-factor : tie.Need-add-factor Inv-loop μ-loop
 add-factor c = search needs
@@ -58,9 +61,9 @@ loop-less c = search needs
 
 loop-again : tie.Need-loop-again Inv-loop μ-loop
 loop-again c =
-    let k = c .before .before .before .before .before .before .before .before .before .before .before .pre .0 in
-    let l = c .before .before .before .before .before .before .before .before .loop in
-    let taken = c .before .before .before .before .before .before .if1 .taken in (
+    let k = c .before .before .before .before .before .before .before .before .before .before .before .before .pre .0 in
+    let l = c .before .before .before .before .before .before .before .before .before .loop in
+    let taken = c .before .before .before .before .before .before .before .if1 .taken in (
       search needs,
       put-numbered _ (l .factor) (rw (sheet-columns k) taken) (sheet-level k _ taken ∙ sym (c .before .before .before .power .ensures))
           (l .inv .1) (c .before .before .put-byte .ensures),
@@ -85,6 +88,7 @@ put-levels-spec =
     mul-width
     shared-slice-read-width
     cast-width
+    cast-power
     power-requires
     cast-put-byte
     put-byte-requires

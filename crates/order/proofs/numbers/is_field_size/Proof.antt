@@ -1,6 +1,7 @@
 -- `order::numbers::is_field_size` meets its contract: each way out has the parts of the test decided.
 use borrow.Author.Tests.{le-leb, lt-leb, eq-eqb, ne-eqb}
-use borrow.Author.Needs.{needs}
+use native.Mathlib.Omega.{arith}
+use Rattle.order.proofs.Powers.{small-power}
 use Rattle.order.proofs.numbers.is_field_size.Statement.{statement}
 use Rattle.order.proofs.numbers.is_field_size.Tie as tie
 
@@ -14,7 +15,7 @@ returns-3 : tie.Need-returns-3
 returns-3 c = simp (le-leb _ _ (c .before .before .if1 .left), le-leb _ _ (c .before .if2 .left), eq-eqb _ _ (c .if3 .taken))
 
 power-requires : tie.Need-power-requires
-power-requires c κs = search needs
+power-requires c κs = (omega (arith, c .before .before .if1 .left), small-power _ _ (c .before .if2 .left) (c .before .before .before .pre))
 
 returns-4 : tie.Need-returns-4
 returns-4 c = simp (le-leb _ _ (c .before .before .before .if1 .left), le-leb _ _ (c .before .before .if2 .left), ne-eqb _ _ (c .before .if3 .left), c .power .ensures)

@@ -1,7 +1,7 @@
 -- `order::numbers::is_width` meets its contract: each way out has the parts of the test decided; no u over 6 has s^u at most 64.
 use borrow.Author.Tests.{le-leb, lt-leb}
-use Rattle.order.proofs.Powers.{large-power}
-use borrow.Author.Needs.{needs}
+use Rattle.order.proofs.Powers.{small-power, large-power}
+use native.Mathlib.Omega.{arith}
 use Rattle.order.proofs.numbers.is_width.Statement.{statement}
 use Rattle.order.proofs.numbers.is_width.Tie as tie
 
@@ -12,7 +12,7 @@ returns-2 : tie.Need-returns-2
 returns-2 c = simp (le-leb _ _ (c .before .if1 .left), lt-leb _ _ (large-power _ _ (c .before .before .pre .0) (c .if2 .taken)))
 
 power-requires : tie.Need-power-requires
-power-requires c κs = search needs
+power-requires c κs = (omega (arith, c .before .before .pre .0), small-power _ _ (c .before .before .pre .1) (omega (arith, c .if2 .left)))
 
 returns-3 : tie.Need-returns-3
 returns-3 c = simp (le-leb _ _ (c .before .before .if1 .left), c .power .ensures)

@@ -1,17 +1,16 @@
 -- `power` meets its contract: the product so far is the power so far, which no later one falls below.
 -- Assumes nothing.
 use mathlib.Core.Path.{_≡_, sym}
-use Prim.Native.Nat.{_-_, _^_, _≤_}
-use native.Mathlib.Nat.{le-trans, le-antisymm, pow-zero, pow-suc, pow-le-pow-right}
+use Prim.Native.Nat.{suc, _-_, _*_, _^_, _≤_}
+use native.Mathlib.Nat.{le-trans, le-antisymm, lt-of-le-of-lt, pow-zero, pow-suc, pow-le-pow-right}
 use native.Mathlib.Numerals.{add-one}
-use Rattle.counting.proofs.Fits.{product-fits}
+use lib.Dec.{lit<}
 use borrow.Author.Needs.{needs}
-use Rattle.opening.proofs.field.power.Statement.{statement}
-use Rattle.opening.proofs.field.power.Tie as tie
+use Rattle.finite.proofs.power.Statement.{statement}
+use Rattle.finite.proofs.power.Tie as tie
 
 abbrev Inv-loop : tie.InvT-loop
-Inv-loop s n product₀ i₀ product i =
-    (i ≤ n) × (product ≡ s ^ i)
+Inv-loop s n product₀ i₀ product i = (i ≤ n) × (product ≡ s ^ i)
 
 abbrev μ-loop : tie.MeasureT-loop
 μ-loop s n product₀ i₀ product i = n - i
@@ -22,7 +21,9 @@ loop-holds c = (search needs, sym (pow-zero _))
 mul-product : tie.Need-mul-product Inv-loop μ-loop
 mul-product c =
     let l = c .before .loop in
-    product-fits {m = 512} (rw (l .inv .1) (le-trans (pow-le-pow-right (c .before .before .pre .0) (l .inv .0)) (c .before .before .pre .1))) (c .before .before .fits .s) tt
+    let s = c .before .before .args .s in
+    let next : l .product * s ≡ s ^ suc (l .i) = rw (l .inv .1) (sym (pow-suc s (l .i))) in
+    record { fits = rw next (lt-of-le-of-lt (le-trans (pow-le-pow-right (c .before .before .pre .0) (c .loop-test .taken)) (c .before .before .pre .1)) (lit< tt)) }
 
 add-i : tie.Need-add-i Inv-loop μ-loop
 add-i c = search needs
