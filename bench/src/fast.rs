@@ -1,0 +1,47 @@
+//! The fastest safe Rust for the large orders, for which the second implementation is plain and slow.
+//!
+//! It asks every question of 01 within the same limits, and counts pair by pair with a flat array of
+//! counters, as the proved planner does. But it is written for those orders alone: generators over
+//! the field of two elements with factors of one column, SUM without a k, SPLIT by house table 101,
+//! no other house table, no refusal of a generator or a step. For an order that needs more the answer
+//! is None.
+
+mod build;
+pub mod common_bits;
+mod count;
+mod read;
+
+use crate::planners::{Buffers, Numbers};
+use count::TableCheck;
+
+/// Why an order is not filled.
+enum Stop {
+    Refused(Numbers),
+    NotWritten,
+}
+
+pub fn plan(list: &[u16], buffers: &mut Buffers) -> Option<Numbers> {
+    plan_with(count::check_table, list, buffers)
+}
+
+fn plan_with(check_table: TableCheck, list: &[u16], buffers: &mut Buffers) -> Option<Numbers> {
+    match fill(check_table, list, buffers) {
+        Ok(numbers) => Some(numbers),
+        Err(Stop::Refused(numbers)) => {
+            buffers.clear();
+            Some(numbers)
+        }
+        Err(Stop::NotWritten) => None,
+    }
+}
+
+fn fill(check_table: TableCheck, list: &[u16], buffers: &mut Buffers) -> Result<Numbers, Stop> {
+    let order = read::order(list)?;
+    for ingredient in &order.ingredients {
+        ingredient.in_range()?;
+    }
+    for (index, ingredient) in order.ingredients.iter().enumerate() {
+        count::check(check_table, index + 1, ingredient, &mut buffers.scratch)?;
+    }
+    build::carry_out(&order, buffers)
+}

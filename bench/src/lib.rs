@@ -1,0 +1,13 @@
+//! What the programs of this package share.
+//!
+//! - `planners`: the proved planner and the second implementation, on the same lent buffers;
+//! - `fast`: the fastest safe Rust for the large orders, for which the second implementation is slow;
+//! - `orders`: the orders that are timed;
+//! - `timing`: least times, taken in turn.
+
+#![forbid(unsafe_code)]
+
+pub mod fast;
+pub mod orders;
+pub mod planners;
+pub mod timing;

@@ -1,0 +1,180 @@
+//! `bench [PLANNER]`: how long the proved planner takes, always as a ratio to something else.
+
+#![forbid(unsafe_code)]
+
+use bench::fast;
+use bench::orders::{cases, least_order, table_order, Case};
+use bench::planners::{plain, proved, Buffers, Numbers};
+use bench::timing::{least_times, ratio, time_of, Effort};
+use second::LEAST;
+use std::env;
+use std::ffi::OsStr;
+use std::fs::{create_dir, remove_dir_all, write, File};
+use std::io;
+use std::path::{Path, PathBuf};
+use std::process::{self, Command, Stdio};
+use std::time::Duration;
+
+type Planner = fn(&[u16], &mut Buffers) -> Numbers;
+
+const CALLS: Effort = Effort {
+    rounds: 10,
+    time: Duration::from_secs(1),
+};
+
+const PROGRAMS: Effort = Effort {
+    rounds: 3,
+    time: Duration::from_secs(1),
+};
+
+fn main() -> io::Result<()> {
+    let cases = cases();
+    println!("proved planner / second implementation, and / fast safe Rust");
+    for case in &cases {
+        print_against_rust(case);
+    }
+    println!("\nproved planner / pairs counted by common bits, what a later request could gain");
+    for case in &cases[..2] {
+        let times = times_of_planners(&[proved, by_common_bits], &case.lists);
+        print_line(&case.name, &[ratio(times[0], times[1])]);
+    }
+    println!("\nproved planner, TAKE of a two-level table / the line before, and the same without");
+    println!("the time of the least order, which is that of clearing the buffers");
+    print_growth([(512, 8), (512, 16), (512, 32), (512, 63)]);
+    print_growth([(64, 63), (128, 63), (256, 63), (512, 63)]);
+    if let Some(program) = env::args_os().nth(1) {
+        println!("\nproved program / cat of the same bytes, from start to end");
+        for case in &cases {
+            print_against_cat(&program, case)?;
+        }
+    }
+    Ok(())
+}
+
+fn print_line(name: &str, ratios: &[f64]) {
+    let ratios: String = ratios.iter().map(|ratio| format!("{ratio:>8.2}")).collect();
+    println!("{}", format!("{name:<40}{ratios}").trim_end());
+}
+
+fn print_against_rust(case: &Case) {
+    let mut planners: Vec<Planner> = vec![proved, plain];
+    if case.fast {
+        planners.push(by_fast);
+    }
+    let times = times_of_planners(&planners, &case.lists);
+    let ratios: Vec<f64> = times[1..].iter().map(|&t| ratio(times[0], t)).collect();
+    print_line(&case.name, &ratios);
+}
+
+fn by_fast(list: &[u16], buffers: &mut Buffers) -> Numbers {
+    fast::plan(list, buffers).expect("it is written for this order")
+}
+
+fn by_common_bits(list: &[u16], buffers: &mut Buffers) -> Numbers {
+    fast::common_bits::plan(list, buffers).expect("it is written for this order")
+}
+
+/// The least time of each planner for all of the lists, once they are seen to agree.
+fn times_of_planners(planners: &[Planner], lists: &[Vec<u16>]) -> Vec<Duration> {
+    for list in lists {
+        assert_all_agree(planners, list);
+    }
+    let mut buffers = Buffers::zeros(LEAST);
+    let all_lists = |which: usize| {
+        let times = lists.iter().map(|list| {
+            buffers.clear();
+            time_of(|| planners[which](list, &mut buffers))
+        });
+        times.sum()
+    };
+    least_times(CALLS, planners.len(), all_lists)
+}
+
+fn assert_all_agree(planners: &[Planner], list: &[u16]) {
+    let answers = planners.iter().map(|planner| {
+        let mut buffers = Buffers::zeros(LEAST);
+        (planner(list, &mut buffers), buffers)
+    });
+    let answers: Vec<(Numbers, Buffers)> = answers.collect();
+    assert!(
+        answers.windows(2).all(|two| two[0] == two[1]),
+        "an answer or a byte differs"
+    );
+}
+
+/// Tables of so many runs and columns, each with its time against that of the one before.
+fn print_growth(sizes: [(usize, usize); 4]) {
+    let mut lists = vec![least_order()];
+    lists.extend(sizes.map(|(runs, columns)| table_order(runs, columns)));
+    let mut buffers = Buffers::zeros(LEAST);
+    let times = least_times(CALLS, lists.len(), |which| {
+        buffers.clear();
+        time_of(|| proved(&lists[which], &mut buffers))
+    });
+    let (least, times) = (times[0], &times[1..]);
+    for (place, (runs, columns)) in sizes.iter().enumerate() {
+        let name = format!("{runs} runs and {columns} columns");
+        let ratios = match place {
+            0 => vec![],
+            _ => {
+                let (before, now) = (times[place - 1], times[place]);
+                vec![ratio(now, before), ratio(now - least, before - least)]
+            }
+        };
+        print_line(&name, &ratios);
+    }
+}
+
+fn print_against_cat(program: &OsStr, case: &Case) -> io::Result<()> {
+    let texts = Texts::of(&case.lists)?;
+    let programs = [program, OsStr::new("cat")];
+    let times = least_times(PROGRAMS, programs.len(), |which| {
+        let times = texts.paths.iter().map(|path| {
+            let run = || run_to_its_end(programs[which], path);
+            time_of(|| run().expect("the program runs"))
+        });
+        times.sum()
+    });
+    print_line(&case.name, &[ratio(times[0], times[1])]);
+    Ok(())
+}
+
+fn run_to_its_end(program: &OsStr, input: &Path) -> io::Result<()> {
+    let mut command = Command::new(program);
+    command.stdin(File::open(input)?).stdout(Stdio::null());
+    match command.status()?.success() {
+        true => Ok(()),
+        false => Err(io::Error::other("the program failed")),
+    }
+}
+
+/// Orders as texts in files, which are removed with this.
+struct Texts {
+    directory: PathBuf,
+    paths: Vec<PathBuf>,
+}
+
+impl Texts {
+    fn of(lists: &[Vec<u16>]) -> io::Result<Texts> {
+        let directory = env::temp_dir().join(format!("bench-{}", process::id()));
+        create_dir(&directory)?;
+        let mut texts = Texts {
+            directory,
+            paths: Vec::new(),
+        };
+        for (index, list) in lists.iter().enumerate() {
+            let path = texts.directory.join(index.to_string());
+            let words: Vec<String> = list.iter().map(u16::to_string).collect();
+            write(&path, words.join(" ") + "\n")?;
+            texts.paths.push(path);
+        }
+        Ok(texts)
+    }
+}
+
+impl Drop for Texts {
+    fn drop(&mut self) {
+        // Nothing is lost if some files stay.
+        let _ = remove_dir_all(&self.directory);
+    }
+}
