@@ -1,0 +1,249 @@
+#!/usr/bin/env python3
+"""scan.py PROGRAM SECOND N SEED: N random texts on the standard input of both programs, outputs compared.
+
+PROGRAM is given each text in pieces cut at random places, and the next piece only when it has read the one before, so that no read goes over a cut;
+SECOND is given the text whole. The texts are orders, whole or damaged, and streams of bytes. The same SEED makes the same texts and cuts.
+"""
+
+import collections
+import fcntl
+import os
+import random
+import struct
+import subprocess
+import sys
+import tempfile
+import termios
+import time
+
+MOST_WORDS = 32768
+BLANKS = [b" ", b"\t", b"\n"]
+FIELDS = [2, 3, 4, 5, 7, 8, 9]
+
+# Words that are no decimal number up to 65,535, or look as if they were none.
+STRANGE_WORDS = [
+    b"65535", b"65536", b"65540", b"99999", b"100000", b"4294967296", b"18446744073709551616", b"9" * 40,
+    b"0" * 30 + b"1", b"0" * 5000 + b"65535", b"0" * 5000 + b"65536",
+    b"+1", b"-1", b"-0", b"1.0", b"1,", b"0x1", b"1e1", b"a", b"1a", b"a1", b"/", b":", b"0:", b"/0",
+    b"\r", b"1\r", b"\x00", b"1\x001", b"\x0b", b"\x0c", b"\xff", b"\xc2\xb2",
+]
+
+
+# Orders, as lists of numbers.
+
+
+def order(ingredients, steps):
+    return [len(ingredients), *sum(ingredients, []), len(steps), *sum(steps, [])]
+
+
+def parity(a, b):
+    return (a & b).bit_count() % 2
+
+
+def parity_table(runs, columns):
+    entries = [parity(run, column) for run in range(runs) for column in range(1, columns + 1)]
+    return [1, runs, columns, *[2] * columns, *entries]
+
+
+def house_order(rng):
+    """TAKE of a house table; of 101 with MERGE and SPLIT in turn."""
+    number = rng.randint(101, 104)
+    steps = [[1, number]]
+    if number == 101:
+        steps += [[4, 2, 1, 2, 3], [5, 1, 101]] * 7
+        steps = steps[: rng.randint(1, 15)]
+    return order([], steps)
+
+
+def table_order(rng):
+    runs = 2 ** rng.randint(1, 6)
+    return order([parity_table(runs, rng.randint(1, runs - 1))], [[1, 1]])
+
+
+def large_order(rng):
+    """Nearly as many words as are allowed."""
+    runs, columns = rng.choice([(512, 63), (256, 127)])
+    return order([parity_table(runs, columns)], [[1, 1]])
+
+
+def full_order(rng):
+    """As many words as are allowed: a matrix of one column makes up the number."""
+    table = parity_table(512, 63)
+    rows = MOST_WORDS - len(table) - 8
+    return order([table, [2, rows, 1, 2, *[rng.randrange(2) for _ in range(rows)]]], [[1, 1]])
+
+
+def field_order(rng):
+    """Different columns whose first element is 1: no two of them are multiples of each other."""
+    s = rng.choice(FIELDS)
+    t = rng.choice([t for t in range(1, 10) if s**t <= 512])
+    n = rng.randint(1, min(128, s ** (t - 1)))
+    columns = [[1, *(number // s**place % s for place in range(t - 1))] for number in rng.sample(range(s ** (t - 1)), n)]
+    entries = [column[row] for row in range(t) for column in columns]
+    return order([[3, t, n, s, *[1] * n, *entries]], [[2, 1]])
+
+
+def sum_order(rng):
+    runs = 2 ** rng.randint(1, 5)
+    rows = 2 ** rng.randint(1, 4)
+    columns = rng.randint(1, min(runs - 1, 128 // rows))
+    matrix = [2, rows, rows, 2, *(parity(y, c) for y in range(rows) for c in range(rows))]
+    return order([parity_table(runs, columns), matrix], [[1, 1], [3, 1, 2, 0]])
+
+
+def any_order(rng):
+    make = rng.choices([house_order, table_order, field_order, sum_order, large_order, full_order], [30, 20, 20, 20, 2, 2])[0]
+    return make(rng)
+
+
+# Texts.
+
+
+def gap(rng, least):
+    if rng.random() < 0.002:
+        return b"".join(rng.choices(BLANKS, k=rng.randint(1000, 10000)))
+    if rng.random() < 0.8:
+        return b" "[:least]
+    return b"".join(rng.choices(BLANKS, k=rng.randint(least, 5)))
+
+
+def word(rng, number):
+    zeros = rng.choice([1, 2, 5, 20]) if rng.random() < 0.02 else 0
+    return b"0" * zeros + str(number).encode()
+
+
+def text_of(rng, words):
+    parts = [gap(rng, 0)]
+    for this in words:
+        parts += [this, gap(rng, 1)]
+    parts[-1] = gap(rng, 0)
+    return b"".join(parts)
+
+
+def order_words(rng):
+    return [word(rng, number) for number in any_order(rng)]
+
+
+def whole_text(rng):
+    return text_of(rng, order_words(rng))
+
+
+def strange_word_text(rng):
+    words = order_words(rng)
+    place = rng.randrange(len(words))
+    words[place] = rng.choice(STRANGE_WORDS)
+    return text_of(rng, words)
+
+
+def changed_byte_text(rng):
+    text = bytearray(whole_text(rng))
+    if text:
+        place = rng.randrange(len(text))
+        text[place : place + rng.randint(0, 1)] = rng.choice([bytes([rng.randrange(256)]), b"", b" ", b"0", b"7"])
+    return bytes(text)
+
+
+def cut_off_text(rng):
+    text = whole_text(rng)
+    return text[: rng.randint(0, len(text))]
+
+
+def too_many_words_text(rng):
+    """One word over the most, or more, and perhaps a strange one before, at or after that place."""
+    words = [word(rng, rng.randrange(3)) for _ in range(MOST_WORDS + rng.choice([0, 1, 1, 2, 500]))]
+    if rng.random() < 0.5:
+        near = [0, MOST_WORDS - 2, MOST_WORDS - 1, MOST_WORDS, len(words) - 1]
+        words[min(rng.choice(near), len(words) - 1)] = rng.choice(STRANGE_WORDS)
+    return text_of(rng, words)
+
+
+def byte_stream(rng):
+    alphabet = rng.choice([b" \t\n0123456789", b" 0123456789abc-+.", b"\n01", bytes(range(256))])
+    return bytes(rng.choices(alphabet, k=rng.choice([0, 1, 2, 5, 40, 300, 9000])))
+
+
+def make_text(rng):
+    kinds = [whole_text, strange_word_text, changed_byte_text, cut_off_text, too_many_words_text, byte_stream]
+    return rng.choices(kinds, [30, 25, 15, 10, 2, 18])[0](rng)
+
+
+def cut(rng, text):
+    """Pieces of the text: now and then every byte of a short one, mostly a few."""
+    if len(text) <= 60 and rng.random() < 0.3:
+        places = range(1, len(text))
+    else:
+        places = sorted(rng.sample(range(1, max(len(text), 1)), min(rng.randint(0, 12), max(len(text) - 1, 0))))
+    return [text[start:end] for start, end in zip([0, *places], [*places, len(text)])]
+
+
+# The programs.
+
+
+def unread(pipe):
+    return struct.unpack("i", fcntl.ioctl(pipe, termios.FIONREAD, b"\0" * 4))[0]
+
+
+def feed(pipe, pieces):
+    """Writes the pieces, each when the one before has been read; gives up waiting if that takes long. How many had been read."""
+    read = 0
+    for piece in pieces:
+        rest = memoryview(piece)
+        while rest:
+            rest = rest[os.write(pipe, rest) :]
+        given_up = time.monotonic() + 0.2
+        while unread(pipe) and time.monotonic() < given_up:
+            os.sched_yield()
+        read += not unread(pipe)
+    return read
+
+
+def output_in_pieces(program, pieces):
+    """What the program prints, its exit status, and how many pieces it had read before the next. The output goes to a file, so that a program
+    that prints before it has read everything does not wait for a reader."""
+    with tempfile.TemporaryFile() as output:
+        process = subprocess.Popen([program], stdin=subprocess.PIPE, stdout=output, bufsize=0)
+        pieces_read = 0
+        try:
+            pieces_read = feed(process.stdin.fileno(), pieces)
+        except BrokenPipeError:
+            pass  # a program may stop reading when the answer is sure
+        process.stdin.close()
+        status = process.wait()
+        output.seek(0)
+        return output.read(), status, pieces_read
+
+
+def kind_of(output):
+    words = output.split(maxsplit=2)
+    return "refused " + words[1].decode() if words[:1] == [b"refused"] else "filled"
+
+
+def main():
+    if len(sys.argv) != 5:
+        sys.exit("scan.py PROGRAM SECOND N SEED")
+    program, second = sys.argv[1:3]
+    count, seed = map(int, sys.argv[3:])
+    kinds = collections.Counter()
+    differing = []
+    pieces_written = pieces_read = 0
+    for index in range(count):
+        rng = random.Random(f"{seed} {index}")
+        text = make_text(rng)
+        pieces = cut(rng, text)
+        wanted = subprocess.run([second], input=text, stdout=subprocess.PIPE, check=True).stdout
+        output, status, read = output_in_pieces(program, pieces)
+        if (output, status) != (wanted, 0):
+            differing.append(index)
+        kinds[kind_of(wanted)] += 1
+        pieces_written += len(pieces)
+        pieces_read += read
+    print(f"{count} texts tried in {pieces_written} pieces, of which {pieces_read} were read before the next was written")
+    for kind, times in sorted(kinds.items()):
+        print(f"  {kind}: {times}")
+    print(f"{len(differing)} differ")
+    for index in differing[:20]:
+        print(f"  text {index}")
+    sys.exit(1 if differing else 0)
+
+
+main()
