@@ -64,7 +64,7 @@ pub enum Answer {
     Refused(Refusal),
 }
 
-// A refusal in numbers: that of document 01, and its six details.
+// A refusal in numbers: that of document 01, and its six details. Here i is an ingredient, c and d are columns or factors, x and y levels.
 pub fn numbers_of(why: Refusal) -> [usize; 7]
     ensures { λ r. ⌜ r ≡ numbered why ⌝ }
 {
@@ -73,42 +73,32 @@ pub fn numbers_of(why: Refusal) -> [usize; 7]
         Refusal::Unreadable { place } => [2, place, 0, 0, 0, 0, 0],
         Refusal::EntryOutOfRange { place } => [3, place, 0, 0, 0, 0, 0],
         Refusal::UnevenLevel {
-            ingredient,
-            column,
-            level,
+            ingredient: i,
+            column: c,
+            level: x,
             times,
-        } => [4, ingredient, column, level, times, 0, 0],
+        } => [4, i, c, x, times, 0, 0],
         Refusal::UnevenPair {
-            ingredient,
-            first,
-            second,
-            first_level,
-            second_level,
+            ingredient: i,
+            first: c,
+            second: d,
+            first_level: x,
+            second_level: y,
             times,
-        } => {
-            [
-                5,
-                ingredient,
-                first,
-                second,
-                first_level,
-                second_level,
-                times,
-            ]
-        }
+        } => [5, i, c, d, x, y, times],
         Refusal::UnevenDifference {
-            ingredient,
-            first,
-            second,
-            difference,
+            ingredient: i,
+            first: c,
+            second: d,
+            difference: x,
             times,
-        } => { [6, ingredient, first, second, difference, times, 0] }
+        } => [6, i, c, d, x, times, 0],
         Refusal::Dependent {
-            ingredient,
-            first,
-            second,
+            ingredient: i,
+            first: c,
+            second: d,
             coefficients,
-        } => [7, ingredient, first, second, coefficients, 0, 0],
+        } => [7, i, c, d, coefficients, 0, 0],
         Refusal::StepNotAllowed { step } => [8, step, 0, 0, 0, 0, 0],
         Refusal::PartsDoNotFit { step } => [9, step, 0, 0, 0, 0, 0],
         Refusal::NotTheSum { step, run, member } => [10, step, run, member, 0, 0, 0],
