@@ -3,7 +3,7 @@ use crate::verdict::Deviation;
 ghost use mathlib.Core.Path.{_≡_};
 ghost use Prim.Native.Nat.{ℕ, _+_, _*_, _≤_, _<_};
 ghost use lib.ListN.{length, getD};
-ghost use Rattle.counting.specs.Matrix.{matrixOf, rowDifference};
+ghost use Rattle.counting.specs.Matrix.{matrixOf, difference, rowDifference};
 ghost use Rattle.counting.specs.Checkable.{CheckableMatrix};
 ghost use Rattle.counting.specs.Verdict.{deviation, asDeviation, differenceDeviation};
 ghost use Rattle.counting.specs.Tally.{Cleared, Tallied, Keyed, levelsKey, keysDeviation};
@@ -93,10 +93,19 @@ fn tally_differences(
     while row < rows {
         let x = entries[start + first] as usize;
         let y = entries[start + second] as usize;
-        counters[(x + (p - y)) % p] += 1;
+        let key = difference(p, x, y);
+        counters[key] += 1;
         start += columns;
         row += 1;
     }
+}
+
+// x minus y modulo p, without a division for each row.
+fn difference(p: usize, x: usize, y: usize) -> usize
+    requires { ⌜ (x < p) × (y < p) × (p ≤ 64) ⌝ }
+    ensures { λ r. ⌜ r ≡ difference p x y ⌝ }
+{
+    if y <= x { x - y } else { x + p - y }
 }
 
 // The lowest of n values whose counter is not the n-th part of the runs. Each counter that is read is set back to zero.

@@ -26,40 +26,41 @@ abbrev μ-loop : tie.MeasureT-loop
 μ-loop entries rows columns first second p counters₀ start₀ row₀ counters start row = rows - row
 
 first-place : (c : tie.In-loop Inv-loop μ-loop)
-    → c .before .loop .start + c .before .before .args .first < length (now (c .before .before .args .entries))
+    → c .before .loop .start + c .before .before .before .before .args .first < length (now (c .before .before .before .before .args .entries))
 first-place c =
     rw (c .before .loop .inv .1)
-    (place-below (c .loop-test .taken) (c .before .before .pre .1 .0 .0) (c .before .before .pre .0 .whole))
+    (place-below (c .loop-test .taken) (c .before .before .before .before .pre .1 .0 .0) (c .before .before .before .before .pre .0 .whole))
 
 second-place : (c : tie.In-loop Inv-loop μ-loop)
-    → c .before .loop .start + c .before .before .args .second < length (now (c .before .before .args .entries))
+    → c .before .loop .start + c .before .before .before .before .args .second < length (now (c .before .before .before .before .args .entries))
 second-place c =
     rw (c .before .loop .inv .1)
-    (place-below (c .loop-test .taken) (c .before .before .pre .1 .0 .1) (c .before .before .pre .0 .whole))
+    (place-below (c .loop-test .taken) (c .before .before .before .before .pre .1 .0 .1) (c .before .before .before .before .pre .0 .whole))
 
 next-row : (c : tie.In-loop Inv-loop μ-loop)
-    → c .before .loop .start + c .before .before .args .columns ≤ length (now (c .before .before .args .entries))
-next-row c = rw (c .before .loop .inv .1) (run-end _ _ (c .loop-test .taken) (c .before .before .pre .0 .whole))
+    → c .before .loop .start + c .before .before .before .before .args .columns ≤ length (now (c .before .before .before .before .args .entries))
+next-row c = rw (c .before .loop .inv .1) (run-end _ _ (c .loop-test .taken) (c .before .before .before .before .pre .0 .whole))
 
 first-below : (c : tie.In-loop Inv-loop μ-loop)
-    → getD (now (c .before .before .args .entries)) (c .before .loop .start + c .before .before .args .first) 0 < c .before .before .args .p
+    → getD (now (c .before .before .before .before .args .entries)) (c .before .loop .start + c .before .before .before .before .args .first) 0 < c .before .before .before .before .args .p
 unfolding EntriesInRange matrixOf
 first-below c =
-    rw (c .before .loop .inv .1) (c .before .before .pre .0 .in-range _ _ (c .loop-test .taken) (c .before .before .pre .1 .0 .0))
+    rw (c .before .loop .inv .1) (c .before .before .before .before .pre .0 .in-range _ _ (c .loop-test .taken) (c .before .before .before .before .pre .1 .0 .0))
 
 second-below : (c : tie.In-loop Inv-loop μ-loop)
-    → getD (now (c .before .before .args .entries)) (c .before .loop .start + c .before .before .args .second) 0 < c .before .before .args .p
+    → getD (now (c .before .before .before .before .args .entries)) (c .before .loop .start + c .before .before .before .before .args .second) 0 < c .before .before .before .before .args .p
 unfolding EntriesInRange matrixOf
 second-below c =
-    rw (c .before .loop .inv .1) (c .before .before .pre .0 .in-range _ _ (c .loop-test .taken) (c .before .before .pre .1 .0 .1))
+    rw (c .before .loop .inv .1) (c .before .before .before .before .pre .0 .in-range _ _ (c .loop-test .taken) (c .before .before .before .before .pre .1 .0 .1))
 
-counted : (c : tie.In-loop Inv-loop μ-loop) (x : ℕ) → x % c .before .before .args .p < 4096
-counted c x =
-    lt-of-lt-of-le (mod-lt x (le-trans (lit≤ tt) (c .before .before .pre .0 .modulus-from)))
-    (le-trans (c .before .before .pre .0 .modulus-to) (lit≤ tt))
+counted : (c : tie.In-loop Inv-loop μ-loop) (x y : ℕ) → difference (c .before .before .before .before .args .p) x y < 4096
+unfolding difference
+counted c x y =
+    lt-of-lt-of-le (mod-lt _ (le-trans (lit≤ tt) (c .before .before .before .before .pre .0 .modulus-from)))
+    (le-trans (c .before .before .before .before .pre .0 .modulus-to) (lit≤ tt))
 
 loop-holds : tie.Need-loop-holds Inv-loop μ-loop
-loop-holds c = (search needs, sym (zero-mul _), refl, tallied-none _ (c .pre .1 .1))
+loop-holds c = let pre = c .before .before .pre in (search needs, sym (zero-mul _), refl, tallied-none _ (pre .1 .1))
 
 add-x : tie.Need-add-x Inv-loop μ-loop
 add-x c = omega (arith, first-place c)
@@ -68,7 +69,7 @@ shared-slice-read-x : tie.Need-shared-slice-read-x Inv-loop μ-loop
 shared-slice-read-x c = first-place (c .before)
 
 cast-x : tie.Need-cast-x Inv-loop μ-loop
-cast-x c = omega (arith, first-below (c .before), c .before .before .before .pre .0 .modulus-to)
+cast-x c = let pre = c .before .before .before .before .before .pre in omega (arith, first-below (c .before), pre .0 .modulus-to)
 
 add-y : tie.Need-add-y Inv-loop μ-loop
 add-y c = omega (arith, second-place (c .before))
@@ -77,33 +78,35 @@ shared-slice-read-y : tie.Need-shared-slice-read-y Inv-loop μ-loop
 shared-slice-read-y c = second-place (c .before .before)
 
 cast-y : tie.Need-cast-y Inv-loop μ-loop
-cast-y c = omega (arith, second-below (c .before .before), c .before .before .before .before .pre .0 .modulus-to)
+cast-y c =
+    let pre = c .before .before .before .before .before .before .pre in
+    omega (arith, second-below (c .before .before), pre .0 .modulus-to)
 
-sub-counters : tie.Need-sub-counters Inv-loop μ-loop
-sub-counters c = omega (arith, second-below (c .before .before))
+difference-requires : tie.Need-difference-requires Inv-loop μ-loop
+difference-requires c κs =
+    (first-below (c .before .before), second-below (c .before .before), c .before .before .before .before .before .before .pre .0 .modulus-to)
 
-add-counters : tie.Need-add-counters Inv-loop μ-loop
-add-counters c = omega (arith, first-below (c .before .before), second-below (c .before .before), c .before .before .before .before .pre .0 .modulus-to)
-
-rem-counters : tie.Need-rem-counters Inv-loop μ-loop
-rem-counters c = omega (arith, c .before .before .before .before .pre .0 .modulus-from)
+-- The key is the difference of the definition, and below the number of counters.
+key-counted : (c : tie.After-difference Inv-loop μ-loop) → c .difference .result < 4096
+key-counted c = rw (c .difference .ensures) (counted (c .before .before .before) _ _)
 
 mul-counters : tie.Need-mul-counters Inv-loop μ-loop
-mul-counters c = offset-fits (counted (c .before .before) _)
+mul-counters c = offset-fits (key-counted c)
 
 slice-read-counters : tie.Need-slice-read-counters Inv-loop μ-loop
-slice-read-counters c = rw (c .before .before .before .before .loop .inv .3 .size) (counted (c .before .before .before) _)
+slice-read-counters c = rw (c .before .before .before .before .before .loop .inv .3 .size) (key-counted (c .before))
 
-add-counters-2 : tie.Need-add-counters-2 Inv-loop μ-loop
-add-counters-2 c =
-    let l = c .before .before .before .before .loop in
-    counter-fits (l .inv .3) (le-trans (l .inv .0) (c .before .before .before .before .before .pre .0 .few)) _
+add-counters : tie.Need-add-counters Inv-loop μ-loop
+add-counters c =
+    let l = c .before .before .before .before .before .loop in
+    let pre = c .before .before .before .before .before .before .before .before .pre in
+    counter-fits (l .inv .3) (le-trans (l .inv .0) (pre .0 .few)) _
 
 slice-write-counters : tie.Need-slice-write-counters Inv-loop μ-loop
-slice-write-counters c = rw (c .before .before .before .before .loop .inv .3 .size) (counted (c .before .before .before) _)
+slice-write-counters c = rw (c .before .before .before .before .before .loop .inv .3 .size) (key-counted (c .before))
 
 add-start : tie.Need-add-start Inv-loop μ-loop
-add-start c = omega (arith, next-row (c .before .before .before))
+add-start c = omega (arith, next-row (c .before .before .before .before))
 
 add-row : tie.Need-add-row Inv-loop μ-loop
 add-row c = search needs
@@ -112,13 +115,13 @@ loop-less : tie.Need-loop-less Inv-loop μ-loop
 loop-less c = search needs
 
 loop-again : tie.Need-loop-again Inv-loop μ-loop
-unfolding rowDifference difference matrixOf
+unfolding rowDifference matrixOf
 loop-again c =
-    let l = c .before .before .before .before .loop in (
+    let l = c .before .before .before .before .before .loop in (
       search needs,
       rw (l .inv .1) (sym (run-more (l .row) _)),
       search needs,
-      rw (l .inv .1) (tallied-more (l .inv .3) (counted (c .before .before .before) _)),
+      rw (c .before .difference .ensures, l .inv .1) (tallied-more (l .inv .3) (counted (c .before .before .before .before) _ _)),
     )
 
 same-length : tie.Need-same-length Inv-loop μ-loop
@@ -141,12 +144,10 @@ tally-differences-spec =
     add-y
     shared-slice-read-y
     cast-y
-    sub-counters
-    add-counters
-    rem-counters
+    difference-requires
     mul-counters
     slice-read-counters
-    add-counters-2
+    add-counters
     slice-write-counters
     add-start
     add-row
