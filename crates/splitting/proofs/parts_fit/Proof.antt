@@ -1,4 +1,4 @@
--- `construction::split::parts_fit` meets its contract: the second test is asked only of a column of the sheet.
+-- `splitting::parts_fit` meets its contract: the second test is asked only of a column of the sheet.
 use native.Mathlib.Omega.{arith}
 use borrow.Author.Needs.{needs}
 use borrow.Author.Tests.{lt-ltb, le-ltb}

@@ -1,4 +1,4 @@
--- `construction::split::put_split_levels` meets its contract: three pieces, one after the other.
+-- `splitting::put_split_levels` meets its contract: three pieces, one after the other.
 use mathlib.Core.Path.{sym}
 use Prim.Native.Nat.{_+_, _≤_}
 use native.Mathlib.Omega.{arith}

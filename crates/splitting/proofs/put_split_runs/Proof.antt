@@ -1,4 +1,4 @@
--- `construction::split::put_split_runs` meets its contract. The invariant: the first runs are put, up to `place`, and the next one starts at `start`.
+-- `splitting::put_split_runs` meets its contract. The invariant: the first runs are put, up to `place`, and the next one starts at `start`.
 use mathlib.Core.Path.{_≡_}
 use mathlib.Core.List.{flatMap}
 use Prim.Native.Nat.{_+_, _-_, _*_, _≤_}

@@ -1,4 +1,4 @@
--- `construction::split::split` meets its contract: each question's No is the definition's, and the Yes of all is the next sheet.
+-- `splitting::split` meets its contract: each question's No is the definition's, and the Yes of all is the next sheet.
 use mathlib.Core.Path.{_≡_, refl, sym, _∙_}
 use mathlib.Core.Bool.{Bool, true}
 use Prim.Native.Nat.{_+_, _-_}

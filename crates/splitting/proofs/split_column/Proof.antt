@@ -1,4 +1,4 @@
--- `construction::split::split_column` meets its contract: the next sheet is built in the scratch, its level counts beside it, and both are settled.
+-- `splitting::split_column` meets its contract: the next sheet is built in the scratch, its level counts beside it, and both are settled.
 use mathlib.Core.Path.{sym}
 use native.Mathlib.Nat.{le-trans}
 use borrow.Author.Needs.{needs}

@@ -1,4 +1,4 @@
--- `construction::sum::adjoins` meets its contract: a table that is missing adjoins, and any other by its runs.
+-- `summing::adjoins` meets its contract: a table that is missing adjoins, and any other by its runs.
 use mathlib.Core.Path.{sym, _∙_, ap}
 use borrow.Author.Needs.{needs}
 use lib.Dec.{eqb}

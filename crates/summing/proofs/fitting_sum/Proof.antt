@@ -1,4 +1,4 @@
--- `construction::sum::fitting_sum` meets its contract: question 6, and then question 8.
+-- `summing::fitting_sum` meets its contract: question 6, and then question 8.
 use mathlib.Core.Path.{_≡_, refl, sym, _∙_, ap}
 use mathlib.Core.List.{List}
 use mathlib.Core.Option.{Option}

@@ -1,4 +1,4 @@
--- `construction::sum::is_missing` meets its contract: each arm is a clause of `isMissing`.
+-- `summing::is_missing` meets its contract: each arm is a clause of `isMissing`.
 use mathlib.Core.Path.{sym, ap}
 use borrow.Author.Needs.{needs}
 use Rattle.summing.specs.Summing.{isMissing}

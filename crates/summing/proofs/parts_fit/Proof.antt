@@ -1,4 +1,4 @@
--- `construction::sum::parts_fit` meets its contract: the three parts of question 6 in turn.
+-- `summing::parts_fit` meets its contract: the three parts of question 6 in turn.
 use mathlib.Core.Path.{sym, _∙_}
 use borrow.Author.Tests.{not-true, not-false}
 use borrow.Author.Needs.{needs}

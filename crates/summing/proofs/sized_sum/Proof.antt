@@ -1,4 +1,4 @@
--- `construction::sum::sized_sum` meets its contract: question 8 asks for the sizes of the sheet that `build` then builds.
+-- `summing::sized_sum` meets its contract: question 8 asks for the sizes of the sheet that `build` then builds.
 use mathlib.Core.Path.{_≡_, refl, sym}
 use mathlib.Core.Logic.{inl, inr, ⊎-elim}
 use Prim.Native.Nat.{_+_, _*_}

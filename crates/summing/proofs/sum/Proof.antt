@@ -1,4 +1,4 @@
--- `construction::sum::sum` meets its contract: question 5 of the matrices and of k, and then question 6.
+-- `summing::sum` meets its contract: question 5 of the matrices and of k, and then question 6.
 use mathlib.Core.Path.{_≡_, sym, _∙_, ap}
 use mathlib.Core.Logic.{_⊎_, inl, inr, ⊎-elim}
 use mathlib.Core.Bool.{true, false}

@@ -1,4 +1,4 @@
--- `construction::named_table::put_level_counts` meets its contract. The invariant: the level counts of the first columns are put, up to `place`.
+-- `layout::named_table::put_level_counts` meets its contract. The invariant: the level counts of the first columns are put, up to `place`.
 use mathlib.Core.Path.{_≡_}
 use mathlib.Core.List.{map}
 use Prim.Native.Nat.{_≤_, _-_}

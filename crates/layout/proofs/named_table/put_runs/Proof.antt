@@ -1,4 +1,4 @@
--- `construction::named_table::put_runs` meets its contract. The invariant: the first runs are put, up to `place`.
+-- `layout::named_table::put_runs` meets its contract. The invariant: the first runs are put, up to `place`.
 use mathlib.Core.Path.{_≡_}
 use mathlib.Core.List.{flatMap}
 use Prim.Native.Nat.{_≤_, _-_}

@@ -1,4 +1,4 @@
--- `construction::take::take` meets its contract: the buffers are clear, and the table that the number names is put into them.
+-- `opening::take::take` meets its contract: the buffers are clear, and the table that the number names is put into them.
 use mathlib.Core.Path.{ap₂}
 use native.Mathlib.Nat.{le-trans}
 use native.Mathlib.Omega.{arith}

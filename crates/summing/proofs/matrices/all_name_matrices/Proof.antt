@@ -1,4 +1,4 @@
--- `construction::sum_matrices::all_name_matrices` meets its contract. The invariant: the first `i` numbers name matrices.
+-- `summing::matrices::all_name_matrices` meets its contract. The invariant: the first `i` numbers name matrices.
 use mathlib.Core.Path.{sym, _∙_, ap}
 use Prim.Native.Nat.{_-_}
 use native.Mathlib.Omega.{arith}

@@ -1,4 +1,4 @@
--- `construction::sum_matrices::all_served` meets its contract. The invariant: the first `j` level counts are served.
+-- `summing::matrices::all_served` meets its contract. The invariant: the first `j` level counts are served.
 use Prim.Native.Nat.{_-_}
 use native.Mathlib.Omega.{arith}
 use borrow.Author.Needs.{needs}

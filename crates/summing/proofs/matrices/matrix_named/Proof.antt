@@ -1,4 +1,4 @@
--- `construction::sum_matrices::matrix_named` meets its contract: each arm is a clause of `matrixPlace`.
+-- `summing::matrices::matrix_named` meets its contract: each arm is a clause of `matrixPlace`.
 use mathlib.Core.Path.{sym, _∙_, ap}
 use borrow.Author.Needs.{needs}
 use Rattle.summing.specs.Summing.{matrixPlace}

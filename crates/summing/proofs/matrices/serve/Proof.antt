@@ -1,4 +1,4 @@
--- `construction::sum_matrices::serve` meets its contract. The invariant: the first `i` matrices fit together and are entered into the arrays.
+-- `summing::matrices::serve` meets its contract. The invariant: the first `i` matrices fit together and are entered into the arrays.
 use mathlib.Core.Path.{_≡_, sym, _∙_, ap}
 use Prim.Native.Nat.{_-_}
 use Prim.Native.Nat.{_-_}

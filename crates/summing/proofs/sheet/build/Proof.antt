@@ -1,4 +1,4 @@
--- `construction::sum_sheet::build` meets its contract: the runs are put into the scratch, the level counts into an array, and `settle` moves both.
+-- `summing::sheet::build` meets its contract: the runs are put into the scratch, the level counts into an array, and `settle` moves both.
 use mathlib.Core.Path.{sym}
 use native.Mathlib.Nat.{le-trans}
 use native.Mathlib.Omega.{arith}

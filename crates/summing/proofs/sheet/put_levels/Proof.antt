@@ -1,4 +1,4 @@
--- `construction::sum_sheet::put_levels` meets its contract: the summed columns' level counts, and then the adjoined columns'.
+-- `summing::sheet::put_levels` meets its contract: the summed columns' level counts, and then the adjoined columns'.
 use native.Mathlib.Omega.{arith}
 use borrow.Author.Needs.{needs}
 use lib.ListN.{length-append}

@@ -1,4 +1,4 @@
--- `construction::sum_sheet::put_repeated` meets its contract. The invariant: the byte is put `i` times, up to `place`.
+-- `summing::sheet::put_repeated` meets its contract. The invariant: the byte is put `i` times, up to `place`.
 use mathlib.Core.Path.{_≡_}
 use Prim.Native.Nat.{_≤_, _-_}
 use native.Mathlib.Omega.{arith}

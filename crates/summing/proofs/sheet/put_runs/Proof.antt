@@ -1,4 +1,4 @@
--- `construction::sum_sheet::put_runs` meets its contract. The invariant: the first `r` runs are put, up to `place`.
+-- `summing::sheet::put_runs` meets its contract. The invariant: the first `r` runs are put, up to `place`.
 use Prim.Native.Nat.{_+_, _*_, _/_, _%_, _≤_, _-_}
 use native.Mathlib.Omega.{arith}
 use borrow.Author.Needs.{needs}

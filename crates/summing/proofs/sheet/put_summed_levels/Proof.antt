@@ -1,4 +1,4 @@
--- `construction::sum_sheet::put_summed_levels` meets its contract. The invariant: the level counts that the first `j` of the sheet give are put.
+-- `summing::sheet::put_summed_levels` meets its contract. The invariant: the level counts that the first `j` of the sheet give are put.
 use Prim.Native.Nat.{_-_}
 use native.Mathlib.Omega.{arith}
 use borrow.Author.Needs.{needs}

@@ -1,4 +1,4 @@
--- `construction::sum_sheet::put_summed_run` meets its contract. The invariant: the sums of the first `j` columns are put, up to `place`.
+-- `summing::sheet::put_summed_run` meets its contract. The invariant: the sums of the first `j` columns are put, up to `place`.
 use Prim.Native.Nat.{ℕ, _<_, _-_}
 use Prim.Native.Nat.{_<_, _-_}
 use native.Mathlib.Omega.{arith}

@@ -1,4 +1,4 @@
--- `construction::sum_sheet::put_sums` meets its contract. The invariant: the sums with the first `c` entries are put, up to `place`.
+-- `summing::sheet::put_sums` meets its contract. The invariant: the sums with the first `c` entries are put, up to `place`.
 use mathlib.Core.Path.{sym, _∙_}
 use mathlib.Core.List.{map}
 use Prim.Native.Nat.{_-_}

@@ -1,4 +1,4 @@
--- `construction::sum_sheet::summed_columns` meets its contract. The invariant: the columns of the first `j` level counts are counted.
+-- `summing::sheet::summed_columns` meets its contract. The invariant: the columns of the first `j` level counts are counted.
 use mathlib.Core.Path.{sym}
 use Prim.Native.Nat.{_≤_, _*_, _-_}
 use native.Mathlib.Omega.{arith}
