@@ -1,10 +1,9 @@
 -- What the code finds of an ingredient after its rows and columns is what the definition reads and locates.
 use mathlib.Core.Path.{_≡_}
-use mathlib.Core.List.{List, [], _∷_}
+use mathlib.Core.List.{List}
 use Prim.Native.Nat.{ℕ, _*_, _≤_}
 use native.Mathlib.Omega.{arith}
-use lib.ListN.{length}
-use Rattle.order.specs.Order.{total, All, FieldSize, Width}
+use Rattle.order.specs.Order.{total, FieldSize}
 use Rattle.order.specs.Reader.{allowed, numbers, times}
 use Rattle.order.specs.Grammar.{between, fieldSize, width, tableBody, matrixBody, generatorBody}
 use Rattle.order.specs.Answers.{numberOf, totalOf, walkOf, spotOf}
@@ -13,7 +12,7 @@ use Rattle.order.specs.declared.Number.the-variants.{Is}
 use Rattle.order.specs.declared.Walk.the-variants.{On}
 use Rattle.order.specs.declared.Located.the-variants.{Table, Matrix, Generator}
 use Rattle.order.specs.declared.Spot.the-variants.{Found}
-use Rattle.order.proofs.Powers.{width-small}
+use Rattle.order.proofs.Powers.{total-small}
 use Rattle.order.proofs.ByKind.{between-law}
 use Rattle.order.proofs.IngredientLaw.{levels-law, fieldSize-law, widths-law}
 use Rattle.order.proofs.Answers.{number-value, walk-value, total-value}
@@ -33,11 +32,6 @@ module _ (list : List ℕ) (at rows columns : ℕ) {end : Cursor} where
       let v₁ = number-value (allowed (between 2 64) list at) e₁ in
       walk-value (numbers (rows * columns) list (next .at)) e₂ λ entries v₂.
       rw (v₁, v₂, between-law 2 64 .sound list at p (next .at) v₁ .1 .after)
-
--- The sum of n widths is at most 6 × n.
-total-small : (s : ℕ) (us : List ℕ) → 2 ≤ s → All (Width s) us → total us ≤ 6 * length us
-total-small s [] hs h = omega arith
-total-small s (u ∷ us) hs h = omega (arith, width-small s u hs (h .0), total-small s us hs (h .1))
 
 module _ (list : List ℕ) (at t : ℕ) where
   -- The size of a field that was read is one.

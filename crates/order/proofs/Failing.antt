@@ -1,12 +1,14 @@
--- The first number that fails a test: one step of the search, its result when no number fails, and equal tests.
+-- The first number that fails a test: one step of the search, its result when no number fails, the numbers in two parts, and equal tests.
 use mathlib.Core.Path.{_≡_, refl}
 use mathlib.Core.Logic.{_↔_}
-use mathlib.Core.Bool.{Bool, true, false}
+use mathlib.Core.Bool.{Bool, true, false, _&&_}
 use Prim.Native.Nat.{ℕ, zero, suc, _+_, _-_, _≤_, _<_}
-use native.Mathlib.Nat.{add-zero}
+use native.Mathlib.Nat.{add-zero, zero-add, suc-add, add-assoc}
 use native.Mathlib.Omega.{arith}
 use Rattle.order.specs.Reader.{when}
-use Rattle.order.specs.Range.{firstFailing}
+use Rattle.order.specs.Range.{firstFailing, orElse}
+use Rattle.order.specs.Search.{isInRange}
+use Rattle.order.specs.declared.Entries.{Entries}
 use Rattle.order.specs.declared.Entries.the-variants.{InRange, OutOfRange}
 
 module _ (ok : ℕ → Bool) (start : ℕ) where
@@ -21,6 +23,35 @@ module _ (ok : ℕ → Bool) (start : ℕ) where
   pub failing-done : (left q : ℕ) → left ≤ 0 → firstFailing ok start left q ≡ InRange
   failing-done zero q h = refl
   failing-done (suc left) q h = absurd (omega arith)
+
+  -- All pass, those before q among them, where number q does and all after it.
+  pub failing-all : (all : Bool) (left q : ℕ) → 0 < left →
+      ((all && ok q) && isInRange (firstFailing ok start (left - 1) (q + 1))) ≡ (all && isInRange (firstFailing ok start left q))
+  failing-all all zero q h = absurd (omega arith)
+  failing-all all (suc left) q h = let less : suc left - 1 ≡ left = omega arith in rw less (go all (ok q) (firstFailing ok start left (q + 1)))
+    where
+      go : (all here : Bool) (rest : Entries) → ((all && here) && isInRange rest) ≡ (all && isInRange (when here rest (OutOfRange (start + q))))
+      go true true rest = refl
+      go true false rest = refl
+      go false here rest = refl
+
+  -- Of numbers in two parts, those of the second are looked at where none of the first fails.
+  pub failing-parts : (left more q : ℕ) →
+      firstFailing ok start (left + more) q ≡ orElse (firstFailing ok start left q) (firstFailing ok start more (q + left))
+  failing-parts zero more q = rw (zero-add, add-zero)
+  failing-parts (suc left) more q =
+      let next : q + suc left ≡ q + 1 + left = omega arith in
+      rw (suc-add, next) (go (ok q) _ _ (failing-parts left more (q + 1)))
+    where
+      go : (b : Bool) {rest : Entries} (part after : Entries) → rest ≡ orElse part after →
+          when b rest (OutOfRange (start + q)) ≡ orElse (when b part (OutOfRange (start + q))) after
+      go true part after e = e
+      go false part after e = refl
+
+  -- The numbers from q on, counted from 0.
+  pub failing-from : (left q j : ℕ) → firstFailing (λ i. ok (q + i)) (start + q) left j ≡ firstFailing ok start left (q + j)
+  failing-from zero q j = refl
+  failing-from (suc left) q j = rw (add-assoc start q j, failing-from left q (j + 1), ← add-assoc q j 1)
 
   -- All pass where the first does and all after it.
   one-more : (left q : ℕ) → ok q ≡ true → ((j : ℕ) → j < left → ok (q + 1 + j) ≡ true) → (j : ℕ) → j < suc left → ok (q + j) ≡ true

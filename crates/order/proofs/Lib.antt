@@ -11,6 +11,7 @@ pub mod Bodies
 pub mod Stages
 pub mod Whole
 pub mod Failing
+pub mod Rows
 pub mod Ranges
 pub mod Parts
 pub mod InRange

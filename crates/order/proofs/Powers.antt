@@ -1,10 +1,12 @@
 -- Bounds on small powers.
+use mathlib.Core.List.{List, [], _∷_}
 use Prim.Native.Nat.{ℕ, _*_, _^_, _≤_, _<_}
 use native.Mathlib.Nat.{pow-le-pow-left, pow-le-pow-right, le-trans, lt-of-le-of-lt, lt-of-lt-of-le, mul-le-mul}
 use native.Mathlib.Omega.{arith}
 use native.Mathlib.Decide.{decLe}
 use lib.Dec.{lit<, lit≤}
-use Rattle.order.specs.Order.{Width}
+use lib.ListN.{length}
+use Rattle.order.specs.Order.{total, All, Width}
 
 -- A power with base and exponent up to 9 is far below 2^32.
 pub small-power : (s n : ℕ) → s ≤ 9 → n ≤ 9 → s ^ n ≤ 4294967296
@@ -22,6 +24,11 @@ width-small s u hs h =
       | yes small ↦ small
       | no large ↦ absurd (omega (arith, large-power s u hs (omega arith)))
     ]
+
+-- And the sum of n widths is at most 6 × n.
+pub total-small : (s : ℕ) (us : List ℕ) → 2 ≤ s → All (Width s) us → total us ≤ 6 * length us
+total-small s [] hs h = omega arith
+total-small s (u ∷ us) hs h = omega (arith, width-small s u hs (h .0), total-small s us hs (h .1))
 
 -- The number of entries of a table or matrix, and of a generator, fits.
 pub product-fits : {a b : ℕ} → a ≤ 512 → b ≤ 768 → a * b < 2 ^ 64

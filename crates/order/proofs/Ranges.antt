@@ -1,61 +1,46 @@
 -- Question 3 on the list and on the order that the list writes: the same entries stand in both, below the same limits.
-use mathlib.Core.Path.{_≡_, refl, _∙_}
+use mathlib.Core.Path.{_≡_, refl}
 use mathlib.Core.List.{List, [], _∷_, _++_}
-use Prim.Native.Nat.{ℕ, zero, suc, _+_, _-_, _%_, _≤_, _<_}
-use native.Mathlib.Nat.{mod-lt, mod-one}
+use Prim.Native.Nat.{ℕ, zero, suc, _+_, _-_, _≤_, _<_}
+use native.Mathlib.Nat.{mul-add-mod-self-right, mod-eq-of-lt}
 use native.Mathlib.Omega.{arith}
-use lib.Dec.{ltb}
-use lib.ListN.{length, getD, length-append}
-use Rattle.order.specs.Order.{Ingredient, table, matrix, generator, IngredientLimits, writtenIngredient}
+use lib.ListN.{length, length-append}
+use Rattle.order.specs.Order.{Ingredient, table, matrix, generator, total, IngredientLimits, writtenIngredient}
 use Rattle.order.specs.Reader.{value, refused}
 use Rattle.order.specs.Grammar.{readIngredient}
 use Rattle.order.specs.Answers.{located}
-use Rattle.order.specs.Range.{firstFailing, ingredientRange}
-use Rattle.order.specs.Search.{firstHigh, Inside, locatedRange, scanned}
+use Rattle.order.specs.Range.{ingredientRange}
+use Rattle.order.specs.Search.{Inside, locatedRange, scanned}
 use Rattle.order.specs.declared.Entries.the-variants.{InRange, OutOfRange, Unread}
-use Rattle.order.proofs.Segment.{Segment, part-left, part-right, segment-at, segment-fits}
-use Rattle.order.proofs.Failing.{failing-same}
-
--- Numbers u that stand from place start on, and limits v in turn that stand from place limits on.
-module _ {list : List ℕ} {start next limits after : ℕ} {u v : List ℕ} (s : Segment list start u next) (t : Segment list limits v after) (some : 0 < length v) where
-  pub high-same : firstHigh list start (length u) limits (length v) ≡ firstFailing (λ q. ltb (getD u q 0) (getD v (q % length v) 0)) start (length u) 0
-  unfolding firstHigh
-  high-same =
-      failing-same _ _ start (length u) 0 λ j low high.
-      rw (segment-at s j (omega arith), segment-at t (j % length v) (mod-lt j some))
-
--- The same with one limit x for all.
-module _ {list : List ℕ} {start next limits after x : ℕ} {u : List ℕ} (s : Segment list start u next) (t : Segment list limits (x ∷ []) after) where
-  pub high-one : firstHigh list start (length u) limits 1 ≡ firstFailing (λ q. ltb (getD u q 0) x) start (length u) 0
-  high-one = high-same s t (omega arith) ∙ failing-same _ _ start (length u) 0 (λ j low high. rw mod-one)
+use Rattle.order.proofs.Segment.{Segment, part-left, part-right, segment-fits, segment-numbers}
+use Rattle.order.proofs.Powers.{total-small}
+use Rattle.order.proofs.Rows.{high-same, high-one}
 
 -- An ingredient that stands at a place: its limits and its entries, by the places that the code finds.
 module _ (list : List ℕ) (at : ℕ) where
   pub located-inside : (g : Ingredient) (next : ℕ) → IngredientLimits g → Segment list at (writtenIngredient g) next → Inside list (located (at + 3) g)
   located-inside (table rows levels entries) next (h₁, h₂, h₃, h₄) s =
       let fits = segment-fits s (omega arith) in
-      (h₂ .0, omega (arith, length-append levels entries), omega (arith, length-append levels entries))
+      (omega (arith, length-append levels entries), omega (arith, length-append levels entries))
   located-inside (matrix rows columns p entries) next (h₁, h₂, h₃, h₄) s =
       let fits = segment-fits s (omega arith) in
-      (omega arith, omega arith)
+      ((omega arith, omega arith), omega arith)
   located-inside (generator t s widths entries) next (h₁, h₂, h₃, h₄, h₅) seg =
       let fits = segment-fits seg (omega arith) in
-      (omega arith, omega (arith, length-append widths entries), omega (arith, length-append widths entries))
+      ((omega (arith, total-small s widths (h₃ .0 .0) h₄), omega arith), omega (arith, length-append widths entries))
 
   pub located-same : (g : Ingredient) (next : ℕ) → IngredientLimits g → Segment list at (writtenIngredient g) next → locatedRange list (located (at + 3) g) ≡ ingredientRange (at + 3) g
   unfolding locatedRange ingredientRange
   located-same (table rows levels entries) next (h₁, h₂, h₃, h₄) s =
       let body = part-right (1 ∷ rows ∷ length levels ∷ []) (levels ++ entries) s in
-      rw (← h₄) (high-same (part-right levels entries body) (part-left levels entries body) (h₂ .0))
+      rw (segment-numbers (part-left levels entries body))
+      (high-same (part-right levels entries body) levels _ (λ k c h. rw (mul-add-mod-self-right, mod-eq-of-lt h)) rows h₄)
   located-same (matrix rows columns p entries) next (h₁, h₂, h₃, h₄) s =
       let body = part-right (2 ∷ rows ∷ columns ∷ []) (p ∷ entries) s in
-      let before : at + 3 + 1 - 1 ≡ at + 3 = omega arith in
-      rw (← h₄, before) (high-one (part-right (p ∷ []) entries body) (part-left (p ∷ []) entries body))
+      high-one (part-right (p ∷ []) entries body) columns p rows h₄
   located-same (generator t s widths entries) next (h₁, h₂, h₃, h₄, h₅) seg =
       let body = part-right (3 ∷ t ∷ length widths ∷ []) (s ∷ widths ++ entries) seg in
-      let before : at + 3 + 1 - 1 ≡ at + 3 = omega arith in
-      rw (← h₅, before)
-      (high-one (part-right widths entries (part-right (s ∷ []) (widths ++ entries) body)) (part-left (s ∷ []) (widths ++ entries) body))
+      high-one (part-right widths entries (part-right (s ∷ []) (widths ++ entries) body)) (total widths) s t h₅
 
 -- One of the ingredients that are left to check.
 module _ (list : List ℕ) (at : ℕ) where

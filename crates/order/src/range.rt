@@ -1,27 +1,70 @@
 // Question 3: the first entry that is not below its levels, p or s.
 ghost use mathlib.Core.Path.{_≡_};
-ghost use Prim.Native.Nat.{_+_, _≤_};
-ghost use lib.ListN.{length};
-ghost use Rattle.order.specs.Search.{firstHigh, Inside, locatedRange, scanned};
+ghost use Prim.Native.Nat.{_+_, _*_, _≤_, _<_};
+ghost use lib.ListN.{length, replicate};
+ghost use Rattle.order.specs.Search.{isInRange, highInRow, highInRows, Inside, locatedRange, scanned};
 use crate::Cursor;
 use crate::Entries;
 use crate::Located;
 use crate::Spot;
 use crate::ingredients::ingredient;
 
-// The first of count numbers from start on that is not below its limit; so many limits stand from limits on, and are used in turn.
-fn first_high(list: &[u16], start: usize, count: usize, limits: usize, period: usize) -> Entries
-    requires { ⌜ (1 ≤ period) × ((limits + period ≤ length (now list)) × (start + count ≤ length (now list))) ⌝ }
-    ensures { λ r. ⌜ r ≡ firstHigh (now (list .entry)) start count limits period ⌝ }
+// Whether every number of the row that starts at start is below its limit. Each is compared, whatever the ones before it were, so that the
+// compiler can have several compared at once.
+fn row_in_range(list: &[u16], start: usize, limits: &[u16]) -> bool
+    requires { ⌜ start + length (now limits) ≤ length (now list) ⌝ }
+    ensures { λ r. ⌜ r ≡ isInRange (highInRow (now (list .entry)) start (now (limits .entry))) ⌝ }
 {
-    let mut q = 0;
-    while q < count {
-        if list[limits + q % period] <= list[start + q] {
-            return Entries::OutOfRange { place: start + q };
+    let mut all = true;
+    let mut column = 0;
+    while column < limits.len() {
+        all = all & (list[start + column] < limits[column]);
+        column += 1;
+    }
+    all
+}
+
+// The first number of the row that is not below its limit.
+fn first_high_in_row(list: &[u16], start: usize, limits: &[u16]) -> Entries
+    requires { ⌜ start + length (now limits) ≤ length (now list) ⌝ }
+    ensures { λ r. ⌜ r ≡ highInRow (now (list .entry)) start (now (limits .entry)) ⌝ }
+{
+    let mut column = 0;
+    while column < limits.len() {
+        if limits[column] <= list[start + column] {
+            let place = start + column;
+            return Entries::OutOfRange { place };
         }
-        q += 1;
+        column += 1;
     }
     Entries::InRange
+}
+
+// The first number of so many rows from start on that is not below its limit. Every row has the same limits. Only the row that has such a
+// number is gone through number by number.
+fn first_high(list: &[u16], start: usize, rows: usize, limits: &[u16]) -> Entries
+    requires { ⌜ start + rows * length (now limits) ≤ length (now list) ⌝ }
+    ensures { λ r. ⌜ r ≡ highInRows (now (list .entry)) start rows (now (limits .entry)) ⌝ }
+{
+    let mut at = start;
+    let mut left = rows;
+    while 0 < left {
+        if !row_in_range(list, at, limits) {
+            return first_high_in_row(list, at, limits);
+        }
+        at += limits.len();
+        left -= 1;
+    }
+    Entries::InRange
+}
+
+// The same where every number has the same limit. A row is at most as long as that of a generator of 128 factors of width 6.
+fn first_not_below(list: &[u16], start: usize, rows: usize, columns: usize, limit: usize) -> Entries
+    requires { ⌜ ((columns ≤ 768) × (limit < 65536)) × (start + rows * columns ≤ length (now list)) ⌝ }
+    ensures { λ r. ⌜ r ≡ highInRows (now (list .entry)) start rows (replicate columns limit) ⌝ }
+{
+    let limits = [limit as u16; 768];
+    first_high(list, start, rows, &limits[..columns])
 }
 
 // The first entry of an ingredient that is out of range.
@@ -35,21 +78,24 @@ fn located_range(list: &[u16], what: Located) -> Entries
             columns,
             levels_at,
             entries_at,
-        } => first_high(list, entries_at, rows * columns, levels_at, columns),
+        } => {
+            let levels_end = levels_at + columns;
+            first_high(list, entries_at, rows, &list[levels_at..levels_end])
+        }
         Located::Matrix {
             rows,
             columns,
-            p: _,
+            p,
             entries_at,
-        } => first_high(list, entries_at, rows * columns, entries_at - 1, 1),
+        } => first_not_below(list, entries_at, rows, columns, p),
         Located::Generator {
             t,
             n: _,
-            s: _,
-            widths_at,
+            s,
+            widths_at: _,
             width,
             entries_at,
-        } => first_high(list, entries_at, t * width, widths_at - 1, 1),
+        } => first_not_below(list, entries_at, t, width, s),
         Located::Missing => Entries::InRange,
     }
 }

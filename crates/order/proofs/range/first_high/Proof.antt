@@ -1,94 +1,67 @@
--- `order::range::first_high` meets its contract. The invariant: the search from q on gives the answer of the whole.
-use mathlib.Core.Path.{_≡_, sym, _∙_}
-use mathlib.Core.Bool.{Bool}
-use mathlib.Core.List.{List}
-use Prim.Native.Nat.{ℕ, _+_, _-_, _%_, _≤_, _<_}
-use native.Mathlib.Nat.{mod-lt}
+-- `order::range::first_high` meets its contract. The invariant: the rows that are left stand within the list, and the search in them gives the
+-- answer of the whole.
+use mathlib.Core.Path.{_≡_, refl, sym, _∙_}
+use Prim.Native.Nat.{_+_, _*_, _≤_}
 use native.Mathlib.Omega.{arith}
 use denote.Ref.{now}
 use borrow.Author.Needs.{needs}
-use borrow.Author.Tests.{lt-ltb, le-ltb}
-use lib.Dec.{ltb}
-use lib.ListN.{length, getD}
-use Rattle.order.specs.Range.{firstFailing}
-use Rattle.order.specs.Search.{firstHigh}
-use Rattle.order.proofs.Failing.{failing-on, failing-stop, failing-done}
+use borrow.Author.Tests.{not-true, not-false}
+use lib.ListN.{length}
+use Rattle.order.specs.Search.{highInRows}
+use Rattle.order.proofs.Rows.{rows-on, rows-stop, rows-done, row-first}
 use Rattle.order.proofs.range.first_high.Statement.{statement}
 use Rattle.order.proofs.range.first_high.Tie as tie
 
--- An entry is below its limit.
-abbrev below : List ℕ → ℕ → ℕ → ℕ → ℕ → Bool
-below list start limits period q = ltb (getD list (start + q) 0) (getD list (limits + q % period) 0)
-
 abbrev Inv-loop : tie.InvT-loop
-Inv-loop list start count limits period q₀ q =
-    (q ≤ count) × (firstFailing (below list start limits period) start (count - q) q ≡ firstHigh list start count limits period)
+Inv-loop list start rows limits at₀ left₀ at left =
+    (at + left * length limits ≤ length list)
+    × (highInRows list at left limits ≡ highInRows list start rows limits)
 
 abbrev μ-loop : tie.MeasureT-loop
-μ-loop list start count limits period q₀ q = count - q
+μ-loop list start rows limits at₀ left₀ at left = left
+
+-- The row in hand stands within the list.
+row-in : (c : tie.In-loop Inv-loop μ-loop) →
+    c .before .loop .at + length (now (c .before .before .before .before .args .limits))
+    ≤ length (now (c .before .before .before .before .args .list))
+row-in c = omega (arith, row-first (c .before .loop .left) (length (now (c .before .before .before .before .args .limits))) (c .loop-test .taken))
 
 loop-holds : tie.Need-loop-holds Inv-loop μ-loop
-unfolding firstHigh
-loop-holds c = let all : c .args .count - 0 ≡ c .args .count = omega arith in (search needs, rw all)
+loop-holds c = (c .before .before .pre, refl)
 
-rem-if1 : tie.Need-rem-if1 Inv-loop μ-loop
-rem-if1 c = omega arith
+row-in-range-requires : tie.Need-row-in-range-requires Inv-loop μ-loop
+row-in-range-requires c κs = row-in c
 
--- The limit stands within the list.
-limit-in : (c : tie.In-loop Inv-loop μ-loop) → c .before .before .args .limits + c .before .loop .q % c .before .before .args .period < length (now (c .before .before .args .list))
-limit-in c = omega (arith, mod-lt (c .before .loop .q) (c .before .before .pre .0))
-
-add-if1 : tie.Need-add-if1 Inv-loop μ-loop
-add-if1 c = omega (arith, limit-in c)
-
-mul-if1 : tie.Need-mul-if1 Inv-loop μ-loop
-mul-if1 c = let inside = limit-in c in search needs
-
-shared-slice-read-if1 : tie.Need-shared-slice-read-if1 Inv-loop μ-loop
-shared-slice-read-if1 c = limit-in (c .before)
-
-add-if1-2 : tie.Need-add-if1-2 Inv-loop μ-loop
-add-if1-2 c = search needs
-
-mul-if1-2 : tie.Need-mul-if1-2 Inv-loop μ-loop
-mul-if1-2 c = search needs
-
-shared-slice-read-if1-2 : tie.Need-shared-slice-read-if1-2 Inv-loop μ-loop
-shared-slice-read-if1-2 c = search needs
-
-add-t17 : tie.Need-add-t17 Inv-loop μ-loop
-add-t17 c = search needs
+first-high-in-row-requires : tie.Need-first-high-in-row-requires Inv-loop μ-loop
+first-high-in-row-requires c κs = row-in (c .before .before)
 
 returns : tie.Need-returns Inv-loop μ-loop
 returns c =
-    let a = c .before .before .before .before .before .args in
     let at-loop = c .before .before .before .before .loop in
-    sym (failing-stop (below (now (a .list)) (a .start) (a .limits) (a .period)) (a .start) (a .count - at-loop .q) (at-loop .q) (omega arith) (le-ltb _ _ (c .if1 .taken)))
+    let high = sym (c .before .before .row-in-range .ensures) ∙ not-true _ (c .before .if1 .taken) in
+    c .first-high-in-row .ensures
+    ∙ sym (rows-stop _ _ _ (at-loop .left) (c .before .before .before .loop-test .taken) high)
     ∙ at-loop .inv .1
 
-add-q : tie.Need-add-q Inv-loop μ-loop
-add-q c = search needs
+add-at : tie.Need-add-at Inv-loop μ-loop
+add-at c = omega (arith, row-in (c .before .before))
+
+sub-left : tie.Need-sub-left Inv-loop μ-loop
+sub-left c = search needs
 
 loop-less : tie.Need-loop-less Inv-loop μ-loop
 loop-less c = search needs
 
 loop-again : tie.Need-loop-again Inv-loop μ-loop
 loop-again c =
-    let a = c .before .before .before .before .before .args in
-    let at-loop = c .before .before .before .before .loop in
-    let less : a .count - (at-loop .q + 1) ≡ a .count - at-loop .q - 1 = omega arith in (
-      search needs,
-      rw less
-          (sym (failing-on (below (now (a .list)) (a .start) (a .limits) (a .period)) (a .start) (a .count - at-loop .q) (at-loop .q) (omega arith) (lt-ltb _ _ (c .if1 .left)))
-          ∙ at-loop .inv .1),
-    )
+    let at-loop = c .before .before .before .loop in
+    let a = c .before .before .before .before .before .before .args in
+    let one = row-first (at-loop .left) (length (now (a .limits))) (c .before .before .loop-test .taken) in
+    let below = sym (c .before .row-in-range .ensures) ∙ not-false _ (c .if1 .left) in
+    (omega arith, sym (rows-on _ _ _ (at-loop .left) (c .before .before .loop-test .taken) below) ∙ at-loop .inv .1)
 
 returns-2 : tie.Need-returns-2 Inv-loop μ-loop
-returns-2 c =
-    let a = c .before .before .args in
-    let at-loop = c .before .loop in
-    sym (failing-done (below (now (a .list)) (a .start) (a .limits) (a .period)) (a .start) (a .count - at-loop .q) (at-loop .q) (omega arith))
-    ∙ at-loop .inv .1
+returns-2 c = sym (rows-done _ _ _ (c .before .loop .left) (c .loop-test .left)) ∙ c .before .loop .inv .1
 
 pub first-high-spec : {M : Type 1} → statement M
 first-high-spec =
@@ -97,16 +70,11 @@ first-high-spec =
     Inv-loop
     μ-loop
     loop-holds
-    rem-if1
-    add-if1
-    mul-if1
-    shared-slice-read-if1
-    add-if1-2
-    mul-if1-2
-    shared-slice-read-if1-2
-    add-t17
+    row-in-range-requires
+    first-high-in-row-requires
     returns
-    add-q
+    add-at
+    sub-left
     loop-less
     loop-again
     returns-2)
