@@ -3,20 +3,21 @@
 use mathlib.Core.Path.{_≡_, refl, sym, ap}
 use mathlib.Core.List.{List, [], _∷_, append-nil}
 use mathlib.Core.Option.{Option, none, some}
-use Prim.Native.Nat.{ℕ, zero, suc, _+_, _^_, _≤_, _<_, zero-le}
-use native.Mathlib.Nat.{le-refl, le-trans, le-add-right, le-of-suc-le-suc, eq-or-lt-of-le, pow-zero}
+use Prim.Native.Nat.{ℕ, _+_, _^_, _≤_, _<_, zero-le}
+use native.Mathlib.Nat.{pow-zero}
 use native.Mathlib.Omega.{arith}
-use mathlib.Core.Logic.{⊎-elim}
 use lib.Dec.{lit≤}
 use lib.ListN.{length, getD}
 use Rattle.finite.specs.Sum.{sum}
+use Rattle.finite.proofs.Sums.{sum-le}
 use Rattle.galois.specs.Arithmetic.{fieldSum, fieldProduct}
 use Rattle.counting.specs.Checkable.{CheckableGenerator}
 use Rattle.counting.specs.Generator.{width, generatorOf, ElementsInRange, from, factorColumns, columnsOf}
 use Rattle.counting.specs.GeneratorVerdict.{combinesToZero, dependence, pairDependence, onlyDependence}
-use Rattle.counting.specs.Combining.{gridOf, blockColumns, factorBlock, BlocksIn, asDependence}
+use Rattle.counting.specs.Combining.{gridOf, blockColumns, factorBlock, noBlock, BlocksIn, asDependence}
 use Rattle.counting.specs.declared.generator.Block.{Block}
 use Rattle.counting.specs.declared.generator.Dependence.the-variants.{Nothing, Least}
+use Rattle.counting.proofs.Lists.{Below, below-from}
 
 -- ---- what the enum says of the search
 least-not-nothing : (v : ℕ) → Least v ≡ Nothing → ⊥
@@ -31,23 +32,14 @@ nothing-none none e = refl
 nothing-none (some w) e = absurd (least-not-nothing w (sym e))
 
 -- ---- where the blocks lie
-sum-grows : (n : ℕ) (f : ℕ → ℕ) (i : ℕ) → i < n → sum i f + f i ≤ sum n f
-unfolding sum
-sum-grows zero f i h = absurd (omega arith)
-sum-grows (suc n) f i h =
-    ⊎-elim
-    (λ (e : i ≡ n). rw e (le-refl _))
-    (λ (l : i < n). le-trans (sum-grows n f i l) (le-add-right _ _))
-    (eq-or-lt-of-le (le-of-suc-le-suc h))
-
--- an only factor has no second block
-abbrev pub noBlock : Block
-noBlock = record { start = 0; width = 0 }
+pub factor-below : (us : List ℕ) {i : ℕ} → i < length us → Below (width us) (factorColumns us i)
+unfolding width factorColumns sum
+factor-below us {i} h = below-from (sum i (λ k. getD us k 0)) (getD us i 0) (sum-le (λ k. getD us k 0) h)
 
 module _ (entries : List ℕ) (t s : ℕ) (us : List ℕ) (ok : CheckableGenerator entries t s us) where
   factor-in : (i : ℕ) → i < length us → factorBlock us i .start + factorBlock us i .width ≤ width us
-  unfolding factorBlock width
-  factor-in i h = sum-grows (length us) (λ k. getD us k 0) i h
+  unfolding factorBlock width sum
+  factor-in i h = sum-le (λ k. getD us k 0) h
 
   factor-power : (i : ℕ) → i < length us → s ^ factorBlock us i .width ≤ 64
   unfolding factorBlock
@@ -71,8 +63,8 @@ module _ (entries : List ℕ) (t s : ℕ) (us : List ℕ) (ok : CheckableGenerat
   pub pair-blocks : (i j : ℕ) → i < length us → j < length us → BlocksIn entries t (width us) s (factorBlock us i) (factorBlock us j)
   pair-blocks i j hi hj = blocks _ _ (factor-in i hi) (factor-in j hj) (factor-power i hi) (factor-power j hj)
 
-  pub only-blocks : 0 < length us → BlocksIn entries t (width us) s (factorBlock us 0) noBlock
-  only-blocks h = blocks _ _ (factor-in 0 h) zero-le (factor-power 0 h) (rw pow-zero (lit≤ tt))
+  pub one-block : (i : ℕ) → i < length us → BlocksIn entries t (width us) s (factorBlock us i) noBlock
+  one-block i h = blocks _ _ (factor-in i h) zero-le (factor-power i h) (rw pow-zero (lit≤ tt))
 
   -- ---- their columns are the factors'
   pair-columns : (i j : ℕ) → blockColumns (factorBlock us i) (factorBlock us j) ≡ columnsOf us (i ∷ j ∷ [])

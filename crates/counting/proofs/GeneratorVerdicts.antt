@@ -126,7 +126,7 @@ module _ (plus times : ℕ → ℕ → ℕ) (G : Generator) (positive : 0 < G .s
   unfolding generatorFault
   fault-pairs n = rw (ne-eqb (factors G) 1 n)
 
-  no-columns : IndependentColumns plus times G []
+  pub no-columns : IndependentColumns plus times G []
   unfolding IndependentColumns AllBelow
   no-columns ks e below vanish k h = absurd (omega arith)
 

@@ -7,6 +7,9 @@ pub mod Tallies
 pub mod TableKeys
 pub mod TableVerdicts
 pub mod MatrixVerdicts
+pub mod FieldAlgebra
 pub mod Combinings
 pub mod Factors
 pub mod GeneratorVerdicts
+pub mod Distinct
+pub mod Marks

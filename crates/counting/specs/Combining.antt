@@ -6,7 +6,7 @@ use lib.Dec.{T}
 use lib.ListN.{length, getD}
 use Rattle.finite.specs.Sum.{sum}
 use Rattle.galois.specs.Arithmetic.{fieldSize, fieldSum, fieldProduct}
-use Rattle.counting.specs.Digits.{digits}
+use Rattle.counting.specs.Digits.{digits, horner}
 use Rattle.counting.specs.Generator.{Generator, from, combination}
 use Rattle.counting.specs.declared.generator.Block.{Block}
 use Rattle.counting.specs.declared.generator.Combining.{Combining}
@@ -53,6 +53,10 @@ blockColumns one other = from (one .start) (one .width) ++ from (other .start) (
 unfoldable pub factorBlock : List ℕ → ℕ → Block
 factorBlock widths i = record { start = sum i (λ k. getD widths k 0); width = getD widths i 0 }
 
+-- no columns, in the place of a second block
+abbrev pub noBlock : Block
+noBlock = record { start = 0; width = 0 }
+
 -- two blocks of the rows, in which all elements are the field's, of widths with s ^ u at most 64
 pub record BlocksIn (entries : List ℕ) (t row s : ℕ) (one other : Block) : Type 0 where
   pub whole : t * row ≤ length entries
@@ -68,6 +72,10 @@ unfoldable pub rowCombination : List ℕ → ℕ → ℕ → Block → Block →
 rowCombination entries start s one other v =
     combination (fieldSum s) (fieldProduct s) (digits s (one .width + other .width) v)
     (map (λ c. getD entries (start + c) 0) (blockColumns one other))
+
+-- the combination of the columns of one block in all t rows, as one number: the element in row 0 is its highest digit base s
+unfoldable pub combinationCode : List ℕ → ℕ → ℕ → ℕ → Block → ℕ → ℕ
+combinationCode entries t row s block v = horner s (λ r. rowCombination entries (r * row) s block noBlock v) t
 
 abbrev pub asDependence : Option ℕ → Dependence
 asDependence none = Nothing

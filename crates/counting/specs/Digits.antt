@@ -13,3 +13,8 @@ digits s (suc n) v = v / s ^ n % s ∷ digits s n v
 unfoldable pub numeral : ℕ → List ℕ → ℕ
 numeral s [] = 0
 numeral s (x ∷ xs) = x * s ^ length xs + numeral s xs
+
+-- the number whose n digits base s are f 0, f 1, .., by Horner's rule
+unfoldable pub horner : ℕ → (ℕ → ℕ) → ℕ → ℕ
+horner s f zero = 0
+horner s f (suc n) = horner s f n * s + f n

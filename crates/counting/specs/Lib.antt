@@ -6,6 +6,7 @@ pub mod Pairs
 pub mod Verdict
 pub mod GeneratorVerdict
 pub mod Combining
+pub mod Marks
 pub mod Tally
 pub mod Checkable
 pub mod Failures

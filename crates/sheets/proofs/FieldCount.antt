@@ -20,8 +20,8 @@ use Rattle.counting.specs.Digits.{digits}
 use Rattle.counting.specs.Generator.{Generator, ElementsInRange, AllBelow, from, width, combination, IndependentColumns}
 use Rattle.counting.proofs.Lists.{Below, each-below, all-below, all-zero, below-map, below-from, map-from, same, eq→same, same→eq, length-from}
 use Rattle.counting.proofs.Digits.{digits-length, digits-below, digits-zero, digits-injective}
+use Rattle.counting.proofs.FieldAlgebra.{zero-below, combination-below, zero-coefficients, combination-exchange}
 use Rattle.sheets.specs.Field.{columnElements, values}
-use Rattle.sheets.proofs.FieldAlgebra.{zero-below, combination-below, zero-coefficients, combination-exchange}
 use Rattle.sheets.proofs.FieldBalance.{count-equal, count-value}
 
 -- s times a count c, which is n where a test passes, and elsewhere one in s of n

@@ -5,15 +5,14 @@ use mathlib.Core.Path.{_≡_, refl, sym, _∙_, ap}
 use mathlib.Core.List.{List, _∷_, map}
 use Prim.Native.Nat.{ℕ, suc, _≤_, _<_}
 use native.Mathlib.Nat.{suc-inj, suc-ne-zero}
-use lib.ListN.{length, getD, replicate, length-replicate}
-use Rattle.finite.specs.Sum.{sum}
-use Rattle.finite.proofs.Sums.{sum-le}
+use lib.ListN.{length, replicate, length-replicate}
 use Rattle.galois.specs.Laws.{Field}
-use Rattle.counting.specs.Generator.{Generator, ElementsInRange, factors, width, factorColumns, columnsOf, combination, IndependentColumns, Independent}
-use Rattle.counting.proofs.Lists.{Below, none, more, below-head, below-tail, each-below, all-below, below-append, below-map, below-from, below-replicate}
+use Rattle.counting.specs.Generator.{Generator, ElementsInRange, factors, width, columnsOf, combination, IndependentColumns, Independent}
+use Rattle.counting.proofs.Lists.{Below, none, more, below-head, below-tail, each-below, all-below, below-append, below-map, below-replicate}
+use Rattle.counting.proofs.FieldAlgebra.{zero-below, product-below, left-comm, combination-below, zero-coefficients}
+use Rattle.counting.proofs.Factors.{factor-below}
 use Rattle.sheets.specs.Lists.{Distinct}
 use Rattle.sheets.proofs.FieldWithin.{Picked, here, there, Within, nothing, pick, picked-below, increasing-below, around, within-columns}
-use Rattle.sheets.proofs.FieldAlgebra.{zero-below, product-below, left-comm, combination-below, zero-coefficients}
 
 module _ {s : ℕ} {_⊕_ _⊗_ : ℕ → ℕ → ℕ} (F : Field s _⊕_ _⊗_) (w : ℕ) where
   infixl 65 _⊕_
@@ -79,10 +78,6 @@ module _ {s : ℕ} {_⊕_ _⊗_ : ℕ → ℕ → ℕ} (F : Field s _⊕_ _⊗_)
       }
 
 -- ---- the columns of factors
-
-pub factor-below : (us : List ℕ) {i : ℕ} → i < length us → Below (width us) (factorColumns us i)
-unfolding width factorColumns sum
-factor-below us {i} h = below-from (sum i (λ k. getD us k 0)) (getD us i 0) (sum-le (λ k. getD us k 0) h)
 
 pub columns-below : (us : List ℕ) {is : List ℕ} → Below (length us) is → Below (width us) (columnsOf us is)
 unfolding columnsOf

@@ -17,12 +17,13 @@ use Rattle.counting.specs.Generator.{Generator, ElementsInRange, factors, facto
 use Rattle.counting.specs.Table.{Table, columns, levelsOf, Setting, shows, times as timesIn, combinations, Apart, Settings, InRange, Even}
 use Rattle.counting.proofs.Lists.{Below, none, more, each-below, below-append, length-from, getD-map, same, same-append}
 use Rattle.counting.proofs.Digits.{digits-length, digits-below, numeral-below, numeral-test}
+use Rattle.counting.proofs.FieldAlgebra.{zero-below}
+use Rattle.counting.proofs.Factors.{factor-below}
 use Rattle.sheets.specs.Lists.{Distinct}
 use Rattle.sheets.specs.Field.{values, fieldTable}
 use Rattle.sheets.specs.Sheet.{OrthogonalArray}
-use Rattle.sheets.proofs.FieldAlgebra.{zero-below}
 use Rattle.sheets.proofs.FieldCount.{values-length, values-append, values-below, count-values}
-use Rattle.sheets.proofs.FieldIndependent.{factor-below, columns-below, independent-factors}
+use Rattle.sheets.proofs.FieldIndependent.{columns-below, independent-factors}
 
 abbrev settingColumns : List Setting → List ℕ
 settingColumns xs = map (λ x. x .column) xs

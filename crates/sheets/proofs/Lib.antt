@@ -7,7 +7,6 @@ pub mod Plane
 pub mod Sum
 pub mod Merge
 pub mod Split
-pub mod FieldAlgebra
 pub mod FieldBalance
 pub mod FieldWithin
 pub mod FieldIndependent

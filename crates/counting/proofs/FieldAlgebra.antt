@@ -1,15 +1,15 @@
--- What follows from the laws of a field: cancelling, the linear equation in one unknown, and how combinations add, scale and exchange.
+-- What follows from the laws of a field: cancelling, the linear equation in one unknown, and how combinations join, add, scale and exchange.
 -- Assumes nothing.
 use mathlib.Core.Path.{_≡_, refl, sym, _∙_, ap, ap₂}
 use mathlib.Core.Logic.{_↔_, _≢_}
-use mathlib.Core.List.{List, [], _∷_, map}
+use mathlib.Core.List.{List, [], _∷_, _++_, map}
 use Prim.Native.Nat.{ℕ, zero, suc, _<_}
-use native.Mathlib.Nat.{pos-of-ne-zero}
-use lib.ListN.{replicate}
+use native.Mathlib.Nat.{pos-of-ne-zero, suc-inj, suc-ne-zero}
+use lib.ListN.{length, replicate}
 use Rattle.galois.specs.Laws.{CommutativeMonoid, Field}
 use Rattle.galois.proofs.Derived.{add-subtract, subtract-add, times-zero}
 use Rattle.counting.specs.Generator.{combination}
 use Rattle.counting.proofs.Lists.{Below, none, more, below-map}
 
 -- sums and products alike
 module _ {n neutral : ℕ} {_∗_ : ℕ → ℕ → ℕ} (M : CommutativeMonoid n neutral _∗_) where
@@ -153,6 +153,37 @@ module _ {s : ℕ} {_⊕_ _⊗_ : ℕ → ℕ → ℕ} (F : Field s _⊕_ _⊗_)
   zero-elements none rs = refl
   zero-elements (more h k) [] = refl
   zero-elements (more h k) (r ∷ rs) = ap₂ _⊕_ (times-zero F h) (zero-elements k rs) ∙ zero-plus zero-below
+
+  -- one list of coefficients and elements after another
+  pub combination-append : {ks xs ls ys : List ℕ} → Below s ks → Below s xs → length ks ≡ length xs → Below s ls → Below s ys
+      → (ks ++ ls) · (xs ++ ys) ≡ ks · xs ⊕ ls · ys
+  unfolding combination
+  combination-append none none e l y = sym (zero-plus (combination-below l y))
+  combination-append none (more h x) e l y = absurd (suc-ne-zero _ (sym e))
+  combination-append (more h k) none e l y = absurd (suc-ne-zero _ e)
+  combination-append (more {x = a} ha k) (more {x = b} hb x) e l y =
+      ap (λ z. a ⊗ b ⊕ z) (combination-append k x (suc-inj e) l y)
+      ∙ sym (plus-assoc (product-below ha hb) (combination-below k x) (combination-below l y))
+
+  -- opposite coefficients have the opposite combination
+  opposite-product : {k x : ℕ} → k < s → x < s → F .group .opposite k ⊗ x ⊕ k ⊗ x ≡ 0
+  opposite-product {k} {x} hk hx =
+      let ho = F .group .opposite-below hk in
+      ap₂ _⊕_ (F .products .commutes ho hx) (F .products .commutes hk hx)
+      ∙ sym (F .distributes hx ho hk)
+      ∙ ap (λ z. x ⊗ z) (plus-comm ho hk ∙ F .group .opposite-cancels hk)
+      ∙ times-zero F hx
+
+  pub combination-opposite : {ks xs : List ℕ} → Below s ks → Below s xs → map (F .group .opposite) ks · xs ⊕ ks · xs ≡ 0
+  unfolding combination
+  combination-opposite none x = zero-plus zero-below
+  combination-opposite (more h k) none = zero-plus zero-below
+  combination-opposite (more h k) (more l x) =
+      let ho = F .group .opposite-below h in
+      exchange-middle (F .group .sums)
+      (product-below ho l) (combination-below (below-map (λ a. F .group .opposite-below {a = a}) k) x) (product-below h l) (combination-below k x)
+      ∙ ap₂ _⊕_ (opposite-product h l) (combination-opposite k x)
+      ∙ zero-plus zero-below
 
   module _ {n : ℕ} {f : ℕ → ℕ} (hf : (r : ℕ) → r < n → f r < s) where
     combination-scale : {a : ℕ} {ks rs : List ℕ} → a < s → Below s ks → Below n rs → ks · map (λ r. a ⊗ f r) rs ≡ a ⊗ ks · map f rs
