@@ -6,15 +6,18 @@ ghost use Rattle.layout.specs.Bytes.{Zeros, padded};
 use buffers::clear;
 use buffers::put_bytes;
 
-// Puts the first n bytes of another buffer in the place of the used bytes of one in which all else is zero.
+// Puts some bytes in the place of the used bytes of a buffer in which all else is zero. Only what is left of the used bytes after them is
+// cleared: the others are written over.
 fn replace(buf: &mut [u8], used: usize, bytes: &[u8])
     requires { ⌜ used ≤ length (now buf) ⌝ }
     requires { ⌜ Zeros (drop used (now buf)) ⌝ }
     requires { ⌜ length (now bytes) ≤ length (now buf) ⌝ }
     ensures { λ r. ⌜ now (buf .exit) ≡ padded (length (now (buf .entry))) (now (bytes .entry)) ⌝ }
 {
-    clear(&mut buf[..used]);
-    put_bytes(buf, 0, bytes);
+    let end = put_bytes(buf, 0, bytes);
+    if end < used {
+        clear(&mut buf[end..used]);
+    }
 }
 
 // The built runs are the first bytes of the scratch, and the counts are the new level counts. The scratch is zeros again at the end.
