@@ -4,3 +4,4 @@ pub mod Roles
 pub mod Rows
 pub mod Settled
 pub mod Sheet
+pub mod Stops

@@ -16,7 +16,7 @@ use Rattle.sheets.specs.Steps.{filled}
 use Rattle.sheets.specs.declared.answer.Answer.the-variants.{Filled}
 use Rattle.layout.specs.Bytes.{runsOf, padded, Zeros, sheetIn}
 use Rattle.layout.specs.Step.{Left}
-use Rattle.merging.specs.Merging.{membersOf, Named, Mergeable, mergedRow}
+use Rattle.merging.specs.Merging.{membersOf, Named, Mergeable, HasStops, mergedRow}
 use Rattle.layout.specs.declared.Size.{Size}
 use Rattle.layout.proofs.Bytes.{runs-length}
 use Rattle.layout.proofs.Sheets.{cells-few, ready-few, ready-runs, built-after, built-holds}
@@ -44,6 +44,10 @@ module _ {p : ℕ} {numbers roles : List ℕ} {size : Size} {table levels scratc
 
   pub counted-most : length counted ≤ 128
   counted-most = rw counted-length (m .ready .columns-most)
+
+  -- the stops that are found are those of its rows
+  pub stops-counted : {stops : List ℕ} → HasStops roles (size .columns) stops → HasStops roles (length counted) stops
+  stops-counted found = rw counted-length found
 
   -- room for the runs in the scratch, and for the level counts
   pub runs-room : size .runs * length counted ≤ length scratch

@@ -1,6 +1,8 @@
 // Step 4, MERGE p, c1 .. c(p+1): the members, p + 1 columns of p levels, become one column of p × p levels. The list names columns from 1.
 // Each column of the sheet has a role in a byte: 0 if it stays, 1 for c1, whose place the merged column takes, 2 for any other member, which goes.
+// Between two members all columns stay. Such a stretch is put as a whole, and where it stops is found once for all runs.
 use buffers::put_byte;
+use buffers::put_bytes;
 use layout::Size;
 use layout::settle::settle;
 use sheets::answer::Answer;
@@ -17,7 +19,7 @@ ghost use Rattle.sheets.specs.Merge.{mergeFits, memberFault, mergeStep};
 ghost use Rattle.sheets.specs.Steps.{filled};
 ghost use Rattle.layout.specs.Bytes.{Zeros, runsOf, sheetIn};
 ghost use Rattle.layout.specs.Step.{Stands, Ready, Left, laterIn};
-ghost use Rattle.merging.specs.Merging.{membersOf, Named, Fitting, Mergeable, HasRoles, mergedRow, everyRun, runFault, asFault};
+ghost use Rattle.merging.specs.Merging.{membersOf, Named, Fitting, Mergeable, HasRoles, HasStops, memberPlace, mergedRow, everyRun, runFault, asFault};
 
 // A member that is not its sum: the run, from 0, and the member's number, from 1.
 enum Fault {
@@ -147,9 +149,27 @@ fn merge_sheet(
 {
     let runs = size.runs;
     let columns = size.columns;
-    let built = merge_runs(members, p, roles, table, &levels[..columns], runs, scratch);
+    let mut stops = [0u8; 129];
+    find_stops(roles, columns, &mut stops);
+    let built = merge_runs(
+        members,
+        p,
+        roles,
+        &stops,
+        table,
+        &levels[..columns],
+        runs,
+        scratch,
+    );
     let mut counts = [0u8; 128];
-    let left = merge_row(&levels[..columns], roles, (p * p) as u8, &mut counts, 0);
+    let left = merge_row(
+        &levels[..columns],
+        roles,
+        &stops,
+        (p * p) as u8,
+        &mut counts,
+        0,
+    );
     settle(
         runs * columns,
         columns,
@@ -165,11 +185,30 @@ fn merge_sheet(
     }
 }
 
+// Finds where the stretch that starts at each column stops, from the right: one that starts at a member stops at once, any other where that of
+// the next column does. The end of the row has a byte too, so that a row may end with a member.
+fn find_stops(roles: &[u8], columns: usize, stops: &mut [u8])
+    requires { ⌜ (columns ≤ length (now roles)) × (columns ≤ 128) × (columns < length (now stops)) ⌝ }
+    ensures { λ r. ⌜ HasStops (now (roles .entry)) columns (now (stops .exit)) ⌝ }
+{
+    stops[columns] = columns as u8;
+    let mut column = columns;
+    while column > 0 {
+        column -= 1;
+        stops[column] = if roles[column] == 0 {
+            stops[column + 1]
+        } else {
+            column as u8
+        };
+    }
+}
+
 // Puts the runs of the new sheet into the scratch, one after the other, and returns the place after them.
 fn merge_runs(
     members: &[u16],
     p: usize,
     roles: &[u8],
+    stops: &[u8],
     table: &[u8],
     levels: &[u8],
     runs: usize,
@@ -177,6 +216,7 @@ fn merge_runs(
 ) -> usize
     requires { ⌜ Fitting p (now members) (now table) (now levels) runs ⌝ }
     requires { ⌜ (length (now levels) ≤ length (now roles)) × HasRoles (membersOf (now members)) (now roles) ⌝ }
+    requires { ⌜ HasStops (now roles) (length (now levels)) (now stops) ⌝ }
     requires { ⌜ runs * length (now levels) ≤ length (now scratch) ⌝ }
     ensures { λ r. ⌜ Put (now (scratch .entry)) 0 (runsOf (mergeStep p (membersOf (now (members .entry))) (tableOf (now (table .entry)) (now (levels .entry)) runs))) (now (scratch .exit)) r ⌝ }
 {
@@ -189,35 +229,43 @@ fn merge_runs(
     while run < runs {
         let end = start + columns;
         let row = &table[start..end];
-        place = merge_row(row, roles, merged_level(row, p, c1, c2), scratch, place);
+        let merged = merged_level(row, p, c1, c2);
+        place = merge_row(row, roles, stops, merged, scratch, place);
         start = end;
         run += 1;
     }
     place
 }
 
-// Puts a row of the new sheet, the levels of a run or the level counts, by the row of the sheet in hand and the entry of the merged column.
-fn merge_row(row: &[u8], roles: &[u8], merged: u8, buf: &mut [u8], at: usize) -> usize
+// Puts a row of the new sheet, the levels of a run or the level counts, by the row of the sheet in hand and the entry of the merged column: the
+// stretch before each member, what stands in the member's place, and the stretch after the last.
+fn merge_row(row: &[u8], roles: &[u8], stops: &[u8], merged: u8, buf: &mut [u8], at: usize) -> usize
     requires { ⌜ length (now row) ≤ length (now roles) ⌝ }
+    requires { ⌜ HasStops (now roles) (length (now row)) (now stops) ⌝ }
     requires { ⌜ at + length (now row) ≤ length (now buf) ⌝ }
     ensures { λ r. ⌜ Put (now (buf .entry)) at (mergedRow (now (roles .entry)) merged (now (row .entry))) (now (buf .exit)) r ⌝ }
 {
     let mut place = at;
     let mut column = 0;
-    while column < row.len() {
-        let role = roles[column];
-        match role {
-            0 => {
-                place = put_byte(buf, place, row[column]);
-            }
-            1 => {
-                place = put_byte(buf, place, merged);
-            }
-            _ => {}
-        }
-        column += 1;
+    let mut stop = stops[0] as usize;
+    while stop < row.len() {
+        place = put_bytes(buf, place, &row[column..stop]);
+        place = put_member(buf, place, roles[stop], merged);
+        column = stop + 1;
+        stop = stops[column] as usize;
     }
-    place
+    put_bytes(buf, place, &row[column..stop])
+}
+
+// Puts what stands in the place of a member: the entry of the merged column in that of c1, and nothing in that of any other.
+fn put_member(buf: &mut [u8], at: usize, role: u8, merged: u8) -> usize
+    requires { ⌜ at < length (now buf) ⌝ }
+    ensures { λ r. ⌜ Put (now (buf .entry)) at (memberPlace role merged) (now (buf .exit)) r ⌝ }
+{
+    if role != 1 {
+        return at;
+    }
+    put_byte(buf, at, merged)
 }
 
 // The level in the merged column of a run, p × c1 + c2.

@@ -16,31 +16,31 @@ use Rattle.merging.proofs.merge_runs.Statement.{statement}
 use Rattle.merging.proofs.merge_runs.Tie as tie
 
 abbrev Inv-loop : tie.InvT-loop
-Inv-loop members p roles table levels runs scratch₀ c1 c2 columns place₀ start₀ run₀ scratch place start run =
+Inv-loop members p roles stops table levels runs scratch₀ c1 c2 columns place₀ start₀ run₀ scratch place start run =
     (run ≤ runs)
     × (start ≡ run * length levels)
     × RunsPut (mergeStep p (membersOf members) (tableOf table levels runs)) (length levels) scratch₀ run scratch place
 
 abbrev μ-loop : tie.MeasureT-loop
-μ-loop members p roles table levels runs scratch₀ c1 c2 columns place₀ start₀ run₀ scratch place start run = runs - run
+μ-loop members p roles stops table levels runs scratch₀ c1 c2 columns place₀ start₀ run₀ scratch place start run = runs - run
 
 column-of-requires : tie.Need-column-of-requires Inv-loop μ-loop
 column-of-requires c κs =
-    let named = c .before .before .before .before .before .pre .0 .named in
+    let named = c .before .before .before .before .before .before .pre .0 .named in
     (omega arith, named .from-one 0 (omega arith))
 
 column-of-requires-2 : tie.Need-column-of-requires-2 Inv-loop μ-loop
 column-of-requires-2 c κs =
-    let named = c .before .before .before .before .before .before .pre .0 .named in
+    let named = c .before .before .before .before .before .before .before .pre .0 .named in
     (omega arith, named .from-one 1 (omega arith))
 
 loop-holds : tie.Need-loop-holds Inv-loop μ-loop
 loop-holds c = (search needs, sym (zero-mul _), runs-none _ _ _)
 
 row-in : (c : tie.In-loop Inv-loop μ-loop)
-    → c .before .loop .start + length (c .before .before .before .before .before .before .before .before .before .args .levels .now)
-    ≤ length (c .before .before .before .before .before .before .before .before .before .args .table .now)
-row-in c = row-end (c .before .before .before .before .before .before .before .before .before .pre .0) (c .before .loop .run) _ (c .loop-test .taken) (c .before .loop .inv .1)
+    → c .before .loop .start + length (c .before .before .before .before .before .before .before .before .before .before .args .levels .now)
+    ≤ length (c .before .before .before .before .before .before .before .before .before .before .args .table .now)
+row-in c = row-end (c .before .before .before .before .before .before .before .before .before .before .pre .0) (c .before .loop .run) _ (c .loop-test .taken) (c .before .loop .inv .1)
 
 add-end : tie.Need-add-end Inv-loop μ-loop
 add-end c = omega (arith, row-in c)
@@ -57,7 +57,7 @@ part-row-end c = omega (arith, row-in c)
 merged-level-requires : tie.Need-merged-level-requires Inv-loop μ-loop
 merged-level-requires c κs =
     let l = c .before .before .loop in
-    let fit = c .before .before .before .before .before .before .before .before .before .before .pre .0 in
+    let fit = c .before .before .before .before .before .before .before .before .before .before .before .pre .0 in
     let c1 = c .before .before .before .before .column-of in
     let c2 = c .before .before .before .column-of2 in (
       merged-columns fit (l .run) _ (c .before .loop-test .taken) (l .inv .1) _ _ (c1 .ensures) (c2 .ensures),
@@ -67,11 +67,14 @@ merged-level-requires c κs =
 merge-row-requires : tie.Need-merge-row-requires Inv-loop μ-loop
 merge-row-requires c κs =
     let l = c .before .before .before .before .loop in
-    let pre = c .before .before .before .before .before .before .before .before .before .before .before .before .pre in
-    let levels = c .before .before .before .before .before .before .before .before .before .before .before .before .args .levels .now in
+    let pre = c .before .before .before .before .before .before .before .before .before .before .before .before .before .pre in
+    let levels = c .before .before .before .before .before .before .before .before .before .before .before .before .before .args .levels .now in
     let long = row-length (pre .0) (l .run) _ (c .before .before .before .loop-test .taken) (l .inv .1) in (
       omega (arith, long),
-      omega (arith, long, put-length (l .inv .2 .put), l .inv .2 .within, run-end (l .run) (length levels) (c .before .before .before .loop-test .taken) (pre .1 .1)),
+      (
+        rw long (pre .1 .1 .0),
+        omega (arith, long, put-length (l .inv .2 .put), l .inv .2 .within, run-end (l .run) (length levels) (c .before .before .before .loop-test .taken) (pre .1 .1 .1)),
+      ),
     )
 
 add-run : tie.Need-add-run Inv-loop μ-loop
@@ -83,7 +86,7 @@ loop-less c = search needs
 loop-again : tie.Need-loop-again Inv-loop μ-loop
 loop-again c =
     let l = c .before .before .before .before .before .before .before .loop in
-    let start = c .before .before .before .before .before .before .before .before .before .before .before .before .before .before .before in
+    let start = c .before .before .before .before .before .before .before .before .before .before .before .before .before .before .before .before in
     let pre = start .pre in
     let columns = length (start .args .levels .now) in
     let c1 = c .before .before .before .before .before .before .before .before .before .column-of in
