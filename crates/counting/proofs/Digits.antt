@@ -34,7 +34,7 @@ module _ {s : ℕ} (positive : 0 < s) where
   digits-below (suc n) v = more (mod-lt (v / s ^ n) positive) (digits-below n v)
 
   -- the last n digits do not see a multiple of s ^ n
-  digits-low : (n q r : ℕ) → digits s n (q * s ^ n + r) ≡ digits s n r
+  pub digits-low : (n q r : ℕ) → digits s n (q * s ^ n + r) ≡ digits s n r
   unfolding digits
   digits-low zero q r = refl
   digits-low (suc n) q r =

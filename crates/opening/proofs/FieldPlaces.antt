@@ -1,162 +1,140 @@
--- The elements and widths of a generator where they stand in the list.
+-- The elements of a generator where they stand in the list, and the levels of its factors.
 -- Assumes nothing.
-use mathlib.Core.Path.{_≡_, refl, _∙_, ap}
-use mathlib.Core.List.{List, map}
-use Prim.Native.Nat.{ℕ, suc, _+_, _-_, _*_, _≤_, _<_}
-use native.Mathlib.Nat.{one-mul, pow-le-pow-right, mul-le-mul-right, le-refl, le-trans, le-of-eq, lt-of-lt-of-le, add-assoc, sub-zero}
+use mathlib.Core.Path.{_≡_, refl, sym, _∙_, ap, subst}
+use mathlib.Core.List.{List}
+use Prim.Native.Nat.{ℕ, zero, suc, _+_, _-_, _*_, _/_, _%_, _^_, _≤_, _<_}
+use native.Mathlib.Nat.{pow-le-pow-right, le-refl, le-trans, lt-of-lt-of-le, add-assoc}
+use native.Mathlib.Numerals.{add-one}
 use native.Mathlib.Omega.{arith}
-use lib.ListN.{length, getD, drop, drop-of-length-le}
+use lib.Arith.{digits-div, digits-mod}
+use lib.ListN.{length, getD, drop}
 use lib.Seq.{getD-take, getD-drop}
-use Rattle.galois.specs.Arithmetic.{Operands, fieldSum, fieldProduct}
+use Rattle.galois.specs.Arithmetic.{fieldSum, fieldProduct}
+use Rattle.galois.specs.Laws.{Field}
 use Rattle.galois.proofs.Fields.{field}
-use Rattle.counting.specs.Generator.{generatorOf, combination, from, width, ElementsInRange, AllBelow}
-use Rattle.counting.specs.Digits.{numeral}
-use Rattle.counting.proofs.Combinings.{size-positive, sum-below, product-below}
-use Rattle.counting.proofs.Fits.{place-below, run-more}
-use Rattle.counting.proofs.Lists.{below-from, all-below, length-from}
-use Rattle.counting.proofs.Digits.{numeral-below}
+use Rattle.counting.specs.Digits.{digits, numeral}
+use Rattle.counting.specs.Generator.{generatorOf, combination, from, width, ElementsInRange}
+use Rattle.counting.proofs.Combinings.{size-positive}
+use Rattle.counting.proofs.Digits.{digits-below, numeral-below}
+use Rattle.counting.proofs.Fits.{place-below}
+use Rattle.counting.proofs.Lists.{below-from, below-map, length-from}
 use Rattle.sheets.specs.Field.{columnElements, values}
+use Rattle.counting.proofs.FieldAlgebra.{combination-below}
 use Rattle.sheets.proofs.FieldCount.{values-length, values-below}
-use Rattle.opening.specs.FieldPlaces.{GeneratorStands, TupleOf, ColumnsIn, generatorIn}
+use Rattle.opening.specs.FieldPlaces.{GeneratorStands, ColumnsIn, generatorIn}
+use Rattle.opening.specs.LevelSums.{digitSums, single}
 use Rattle.opening.specs.declared.field.GeneratorAt.{GeneratorAt}
-use Rattle.opening.proofs.FieldRuns.{combination-next, level-next}
+use Rattle.opening.proofs.FieldRuns.{level-next}
+use Rattle.opening.proofs.FieldSums.{value-sum, value-single}
 
 -- the place of the element in row r and column c
 abbrev pub elementPlace : GeneratorAt → ℕ → ℕ → ℕ
 elementPlace g r c = g .«entries_at» + r * g .width + c
 
+-- the tuple of a run times a column
+abbrev pub columnValue : List ℕ → GeneratorAt → ℕ → ℕ → ℕ
+columnValue list g run c =
+    combination (fieldSum (g .s)) (fieldProduct (g .s)) (digits (g .s) (g .t) run) (columnElements (generatorIn list g) c)
+
+-- the values of the first i columns from `column` on, read as one number
+abbrev pub levelAt : List ℕ → GeneratorAt → ℕ → ℕ → ℕ → ℕ
+levelAt list g run column i =
+    numeral (g .s) (values (fieldSum (g .s)) (fieldProduct (g .s)) (generatorIn list g) (digits (g .s) (g .t) run) (from column i))
+
+digit-sums-next : (s i x y : ℕ) → digitSums s (i + 1) x y ≡ digitSums s i (x / s) (y / s) * s + fieldSum s (x % s) (y % s)
+unfolding digitSums
+digit-sums-next s i x y = rw add-one
+
 module _ {list : List ℕ} {g : GeneratorAt} (known : GeneratorStands list g) where
   pub element-in : (r c : ℕ) → r < g .t → c < g .width → elementPlace g r c < length list
   element-in r c hr hc = omega (arith, place-below hr hc (le-refl (g .t * g .width)), known .entries-in)
 
-  pub element-at : (r c : ℕ) → r < g .t → c < g .width → generatorIn list g .entry r c ≡ getD list (elementPlace g r c) 0
+  element-at : (r c : ℕ) → r < g .t → c < g .width → generatorIn list g .entry r c ≡ getD list (elementPlace g r c) 0
   unfolding generatorIn generatorOf
   element-at r c hr hc =
       rw (known .row, add-assoc)
       (getD-take (g .t * g .width) (drop (g .«entries_at») list) (r * g .width + c) 0 (place-below hr hc (le-refl (g .t * g .width)))
       ∙ getD-drop (g .«entries_at») list (r * g .width + c) 0)
 
-  pub element-below : (r c : ℕ) → r < g .t → c < g .width → getD list (elementPlace g r c) 0 < g .s
+  entry-below : (c : ℕ) → c < g .width → (r : ℕ) → r < g .t → generatorIn list g .entry r c < g .s
   unfolding generatorIn generatorOf ElementsInRange
-  element-below r c hr hc = rw (← element-at r c hr hc) (known .elements r c hr (rw (known .row) hc))
+  entry-below c hc r hr = known .elements r c hr (rw (known .row) hc)
 
-  -- where the column would stand in a further row
-  pub place-end : (c : ℕ) → c < g .width → elementPlace g (g .t) c < 65536
-  place-end c h =
-      omega (arith, mul-le-mul-right (g .width) (known .coordinates-least), one-mul (g .width), known .entries-in, known .short)
+  pub element-below : (r c : ℕ) → r < g .t → c < g .width → getD list (elementPlace g r c) 0 < g .s
+  element-below r c hr hc = rw (← element-at r c hr hc) (entry-below c hc r hr)
 
--- ---- a tuple times a column
+  positive : 0 < g .s
+  positive = size-positive (g .s) (known .size)
 
-row-before : (j w : ℕ) → 0 < j → j * w ≡ (j - 1) * w + w
-row-before j w h = let back : j ≡ j - 1 + 1 = omega arith in ap (λ r. r * w) back ∙ run-more (j - 1) w
+  laws : Field (g .s) (fieldSum (g .s)) (fieldProduct (g .s))
+  laws = field (g .s) (known .size)
 
--- the sum of the products from row j on, where the element of row j and the column stands at the place
-pub record Summed (list : List ℕ) (g : GeneratorAt) (tuple : List ℕ) (column value j place : ℕ) : Type 0 where
-  pub to-go : j ≤ g .t
-  pub here : place ≡ elementPlace g j column
-  pub element : value < g .s
-  pub sum :
-      value
-      ≡ combination (fieldSum (g .s)) (fieldProduct (g .s)) (drop j tuple)
-      (map (λ r. generatorIn list g .entry r column) (from j (g .t - j)))
+  -- ---- a tuple times a column
 
-module _ {list : List ℕ} {g : GeneratorAt} {tuple : List ℕ} {column : ℕ} (known : GeneratorStands list g) (t : TupleOf g tuple) where
-  pub summed-none : Summed list g tuple column 0 (g .t) (elementPlace g (g .t) column)
-  unfolding combination
-  summed-none =
-      record {
-        to-go = le-refl _;
-        here = refl;
-        element = size-positive (g .s) (known .size);
-        sum = rw (drop-of-length-le tuple (le-of-eq (t .many)));
-      }
-
-  pub summed-all : {value place : ℕ} → Summed list g tuple column value 0 place
-      → value ≡ combination (fieldSum (g .s)) (fieldProduct (g .s)) tuple (columnElements (generatorIn list g) column)
+  value-below : (run c : ℕ) → c < g .width → columnValue list g run c < g .s
   unfolding columnElements generatorIn generatorOf
-  summed-all s = rw sub-zero at (s .sum)
+  value-below run c h =
+      combination-below laws (digits-below positive (g .t) run) (below-map (entry-below c h) (below-from 0 (g .t) (omega arith)))
 
--- one row more, before those that are summed
-pub record Turn (list : List ℕ) (g : GeneratorAt) (tuple : List ℕ) (column value j place : ℕ) : Type 0 where
-  pub known : GeneratorStands list g
-  pub coordinates : TupleOf g tuple
-  pub on : column < g .width
-  pub summed : Summed list g tuple column value j place
-  pub more : 0 < j
+  -- of a run with a single digit: the digit times the element in its row
+  pub single-value : (row digit c : ℕ) → row < g .t → digit < g .s → c < g .width
+      → columnValue list g (single g row digit) c ≡ fieldProduct (g .s) digit (getD list (elementPlace g row c) 0)
+  unfolding columnElements generatorIn generatorOf single
+  single-value row digit c hr hd hc =
+      let back : g .t - 1 - (g .t - 1 - row) ≡ row = omega arith in
+      value-single laws (entry-below c hc) (g .t - 1 - row) (omega arith) digit hd
+      ∙ ap (fieldProduct (g .s) digit) (ap (λ r. generatorIn list g .entry r c) back ∙ element-at row c hr hc)
 
-module _ {list : List ℕ} {g : GeneratorAt} {tuple : List ℕ} {column value j place : ℕ} (turn : Turn list g tuple column value j place) where
-  open Turn turn using (known, coordinates, on, summed, more)
+  -- of a run whose digits are those of two others, above and below a weight
+  sum-value : (k : ℕ) → k ≤ g .t → (q e c : ℕ) → e < g .s ^ k → c < g .width
+      → columnValue list g (q * g .s ^ k + e) c ≡ fieldSum (g .s) (columnValue list g (q * g .s ^ k) c) (columnValue list g e c)
+  unfolding columnElements generatorIn generatorOf
+  sum-value k h q e c he hc = value-sum laws (entry-below c hc) k h q e he
 
-  row-in : j - 1 < g .t
-  row-in = omega (arith, more, summed .to-go)
+  -- ---- the levels of a factor
 
-  -- its element stands a row's length before
-  place-back : place - g .width ≡ elementPlace g (j - 1) column
-  place-back = omega (arith, summed .here, row-before j (g .width) more)
-
-  pub place-room : g .width ≤ place
-  place-room = omega (arith, summed .here, row-before j (g .width) more)
-
-  pub place-in : place - g .width < length list
-  place-in = rw place-back (element-in known (j - 1) column row-in on)
-
-  pub factors-in : Operands (g .s) (getD tuple (j - 1) 0) (getD list (place - g .width) 0)
-  unfolding AllBelow
-  factors-in =
-      record {
-        size = known .size;
-        first = coordinates .below (j - 1) (omega (arith, row-in, coordinates .many));
-        second = rw place-back (element-below known (j - 1) column row-in on);
-      }
-
-  pub terms-in : Operands (g .s) (fieldProduct (g .s) (getD tuple (j - 1) 0) (getD list (place - g .width) 0)) value
-  terms-in =
-      record {
-        size = known .size;
-        first = product-below (g .s) (known .size) (factors-in .first) (factors-in .second);
-        second = summed .element;
-      }
-
-  pub summed-more :
-      Summed list g tuple column
-      (fieldSum (g .s) (fieldProduct (g .s) (getD tuple (j - 1) 0) (getD list (place - g .width) 0)) value)
-      (j - 1)
-      (place - g .width)
-  summed-more =
-      let back : suc (j - 1) ≡ j = omega (arith, more) in
-      let one-more : g .t - (j - 1) ≡ suc (g .t - j) = omega (arith, more, summed .to-go) in
-      let G = generatorIn list g in
-      record {
-        to-go = omega (arith, summed .to-go);
-        here = place-back;
-        element = sum-below (g .s) (known .size) (terms-in .first) (terms-in .second);
-        sum =
-            rw (one-more, place-back, ← element-at known (j - 1) column row-in on, summed .sum)
-            (rw back at
-            (combination-next (fieldSum (g .s)) (fieldProduct (g .s)) (λ r. G .entry r column) tuple (j - 1) (g .t - j)
-            (omega (arith, row-in, coordinates .many))));
-      }
-
--- ---- the columns of a factor
-
--- the values of the first i columns from `column` on, read as one number
-abbrev pub levelAt : List ℕ → GeneratorAt → List ℕ → ℕ → ℕ → ℕ
-levelAt list g tuple column i =
-    numeral (g .s) (values (fieldSum (g .s)) (fieldProduct (g .s)) (generatorIn list g) tuple (from column i))
-
-module _ {list : List ℕ} {g : GeneratorAt} {tuple : List ℕ} {column count : ℕ} (known : GeneratorStands list g) (t : TupleOf g tuple) (cs : ColumnsIn g column count) where
-  -- a level of any of them is small
-  level-small : (i : ℕ) → i ≤ count → levelAt list g tuple column i < 64
+  pub level-below : (run column i : ℕ) → column + i ≤ g .width → levelAt list g run column i < g .s ^ i
   unfolding generatorIn generatorOf
-  level-small i h =
+  level-below run column i h =
       let G = generatorIn list g in
-      let columns = below-from {n = width (G .widths)} column i (rw (known .row) (omega (arith, cs .within))) in
-      let each = values-below G (field (g .s) (known .size)) (known .elements) (all-below tuple (t .below)) columns in
-      lt-of-lt-of-le (numeral-below each)
-      (rw (values-length (fieldSum (g .s)) (fieldProduct (g .s)) G tuple (from column i), length-from)
-      (le-trans (pow-le-pow-right (size-positive (g .s) (known .size)) h) (cs .power)))
+      let columns = below-from {n = width (G .widths)} column i (rw (known .row) h) in
+      let each = values-below G laws (known .elements) (digits-below positive (g .t) run) columns in
+      rw (values-length (fieldSum (g .s)) (fieldProduct (g .s)) G (digits (g .s) (g .t) run) (from column i), length-from) at (numeral-below each)
 
-  -- and with a column more it is what Horner's rule makes of it
-  pub level-more : (i : ℕ) → i < count
-      → levelAt list g tuple column i * g .s + combination (fieldSum (g .s)) (fieldProduct (g .s)) tuple (columnElements (generatorIn list g) (column + i)) < 64
-  level-more i h = rw (← level-next (fieldSum (g .s)) (fieldProduct (g .s)) (generatorIn list g) tuple (g .s) column i) (level-small (i + 1) (omega arith))
+  -- with a column more, a level is what Horner's rule makes of it
+  pub level-more : (run column i : ℕ) → levelAt list g run column (i + 1) ≡ levelAt list g run column i * g .s + columnValue list g run (column + i)
+  level-more run column i = level-next (fieldSum (g .s)) (fieldProduct (g .s)) (generatorIn list g) (digits (g .s) (g .t) run) (g .s) column i
+
+  -- and below 64
+  pub level-small : (run : ℕ) {column count : ℕ} → ColumnsIn g column count → (i : ℕ) → i < count
+      → levelAt list g run column i * g .s + columnValue list g run (column + i) < 64
+  level-small run {column} cs i h =
+      rw (← level-more run column i)
+      (lt-of-lt-of-le (level-below run column (i + 1) (omega (arith, cs .within))) (le-trans (pow-le-pow-right positive (omega arith)) (cs .power)))
+
+  -- the last digit of a level with a column more, and the digits before it
+  last-digit : (run column i : ℕ) → column + i < g .width → levelAt list g run column (i + 1) % g .s ≡ columnValue list g run (column + i)
+  last-digit run column i h = ap (λ v. v % g .s) (level-more run column i) ∙ digits-mod _ (value-below run (column + i) h)
+
+  digits-before : (run column i : ℕ) → column + i < g .width → levelAt list g run column (i + 1) / g .s ≡ levelAt list g run column i
+  digits-before run column i h = ap (λ v. v / g .s) (level-more run column i) ∙ digits-div _ (value-below run (column + i) h)
+
+  -- the levels of such a run are the sums, digit by digit, of those of the two others
+  module _ (k : ℕ) (h : k ≤ g .t) (q e : ℕ) (he : e < g .s ^ k) (column : ℕ) where
+    abbrev SumAt : ℕ → Type 0
+    SumAt i = levelAt list g (q * g .s ^ k + e) column i ≡ digitSums (g .s) i (levelAt list g (q * g .s ^ k) column i) (levelAt list g e column i)
+
+    sum-none : SumAt 0
+    unfolding numeral values from digitSums
+    sum-none = refl
+
+    sum-next : (i : ℕ) → column + i < g .width → SumAt i → SumAt (i + 1)
+    sum-next i inside so-far =
+        level-more (q * g .s ^ k + e) column i
+        ∙ rw (so-far, sum-value k h q e (column + i) he inside)
+        (rw (← digits-before (q * g .s ^ k) column i inside, ← digits-before e column i inside, ← last-digit (q * g .s ^ k) column i inside, ← last-digit e column i inside)
+        (sym (digit-sums-next (g .s) i _ _)))
+
+    pub sum-level : (i : ℕ) → column + i ≤ g .width → SumAt i
+    sum-level zero room = sum-none
+    sum-level (suc i) room = subst SumAt (add-one i) (sum-next i (omega arith) (sum-level i (omega arith)))

@@ -10,18 +10,14 @@ use lib.ListN.{length, getD, drop, length-drop}
 use lib.Seq.{getD-take, getD-drop, length-take-le}
 use Rattle.finite.specs.Sum.{sum}
 use Rattle.finite.proofs.Sums.{sum-le}
-use Rattle.galois.specs.Arithmetic.{fieldSum, fieldProduct}
-use Rattle.counting.specs.Digits.{digits, numeral}
-use Rattle.counting.specs.Generator.{generatorOf, width, from, factorColumns}
+use Rattle.counting.specs.Generator.{generatorOf, width, factorColumns}
 use Rattle.counting.specs.Table.{Table, columns, levelsOf}
-use Rattle.counting.proofs.Lists.{each-below}
-use Rattle.counting.proofs.Digits.{digits-length, digits-below}
-use Rattle.counting.proofs.Combinings.{size-positive}
-use Rattle.sheets.specs.Field.{values, fieldTable}
+use Rattle.sheets.specs.Field.{fieldTable}
 use Rattle.sheets.specs.Steps.{fieldStep}
 use Rattle.sheets.proofs.FieldTable.{field-columns, field-levels}
-use Rattle.opening.specs.FieldPlaces.{GeneratorStands, TupleOf, ColumnsIn, widthsIn, generatorIn}
+use Rattle.opening.specs.FieldPlaces.{GeneratorStands, ColumnsIn, widthsIn, generatorIn}
 use Rattle.opening.specs.declared.field.GeneratorAt.{GeneratorAt}
+use Rattle.opening.proofs.FieldPlaces.{levelAt}
 
 -- the sheet
 abbrev pub sheetOf : List ℕ → GeneratorAt → Table
@@ -72,18 +68,9 @@ module _ {list : List ℕ} {g : GeneratorAt} (known : GeneratorStands list g) wh
         power = width-power i h;
       }
 
-  pub run-tuple : (r : ℕ) → TupleOf g (digits (g .s) (g .t) r)
-  run-tuple r =
-      record {
-        many = digits-length (g .s) (g .t) r;
-        below = each-below (digits-below (size-positive (g .s) (known .size)) (g .t) r);
-      }
-
   pub sheet-cell : (r i : ℕ) → i < g .n
       → sheetOf list g .cell r i
-      ≡ numeral (g .s)
-      (values (fieldSum (g .s)) (fieldProduct (g .s)) (generatorIn list g) (digits (g .s) (g .t) r)
-      (from (columnsBefore list g i) (widthAt list g i)))
+      ≡ levelAt list g r (columnsBefore list g i) (widthAt list g i)
   unfolding fieldStep fieldTable generatorIn generatorOf factorColumns
   sheet-cell r i h = rw (width-at i h)
 

@@ -5,7 +5,7 @@ use Prim.Native.Nat.{ℕ, _+_, _*_, _^_, _≤_, _<_}
 use lib.Dec.{T}
 use lib.ListN.{length, getD, take, drop}
 use Rattle.galois.specs.Arithmetic.{fieldSize}
-use Rattle.counting.specs.Generator.{Generator, generatorOf, width, ElementsInRange, AllBelow}
+use Rattle.counting.specs.Generator.{Generator, generatorOf, width, ElementsInRange}
 use Rattle.opening.specs.declared.field.GeneratorAt.{GeneratorAt}
 
 -- the widths of its factors, and the generator
@@ -29,11 +29,6 @@ pub record GeneratorStands (list : List ℕ) (g : GeneratorAt) : Type 0 where
   pub row : width (widthsIn list g) ≡ g .width
   pub powers : (i : ℕ) → i < g .n → g .s ^ getD (widthsIn list g) i 0 ≤ 64
   pub elements : ElementsInRange (generatorIn list g)
-
--- t elements of the field
-pub record TupleOf (g : GeneratorAt) (tuple : List ℕ) : Type 0 where
-  pub many : length tuple ≡ g .t
-  pub below : AllBelow (g .s) tuple
 
 -- columns of the generator whose values make a level: s to the power of their number is at most 64
 pub record ColumnsIn (g : GeneratorAt) (column count : ℕ) : Type 0 where

@@ -1,1 +1,2 @@
 pub mod FieldPlaces
+pub mod LevelSums

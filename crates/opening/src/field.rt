@@ -1,16 +1,18 @@
 // Step 2, FIELD i: the sheet is the table that generator i makes. Its entries and widths are read from the list where they stand.
 ghost use mathlib.Core.Path.{_≡_};
-ghost use Prim.Native.Nat.{_+_, _^_, _≤_, _<_};
+ghost use Prim.Native.Nat.{_+_, _*_, _^_, _≤_, _<_, max};
+ghost use lib.Dec.{T};
 ghost use lib.ListN.{length};
-ghost use Rattle.galois.specs.Arithmetic.{fieldSum, fieldProduct};
+ghost use Rattle.galois.specs.Arithmetic.{fieldSize, fieldSum, fieldProduct};
 ghost use Rattle.counting.specs.Digits.{digits, numeral};
-ghost use Rattle.counting.specs.Generator.{combination, from};
-ghost use Rattle.sheets.specs.Field.{columnElements, values};
+ghost use Rattle.counting.specs.Generator.{from};
+ghost use Rattle.sheets.specs.Field.{values};
 ghost use Rattle.sheets.specs.Steps.{filled, fieldStep};
 ghost use Rattle.buffers.specs.Put.{Put};
-ghost use Rattle.layout.specs.Bytes.{Zeros, padded, runOf, runsOf};
+ghost use Rattle.layout.specs.Bytes.{Zeros, runOf, runsOf};
 ghost use Rattle.layout.specs.Step.{Readable, Stands, firstIn, Left};
-ghost use Rattle.opening.specs.FieldPlaces.{GeneratorStands, TupleOf, ColumnsIn, generatorIn};
+ghost use Rattle.opening.specs.FieldPlaces.{GeneratorStands, ColumnsIn, generatorIn};
+ghost use Rattle.opening.specs.LevelSums.{SumsOf, WidthsTo, Sums, single, Leads, RunsBefore, SumsStand, runSum};
 use buffers::put_byte;
 use finite::power;
 use order::Located;
@@ -27,6 +29,15 @@ struct GeneratorAt {
     widths_at: usize,
     width: usize,
     entries_at: usize,
+}
+
+// A run whose tuple has one digit that is not 0, or none, as run 0: its number, the weight of the digit, the row of the generator that the digit
+// multiplies, and the digit.
+struct Leading {
+    run: usize,
+    span: usize,
+    row: usize,
+    digit: u8,
 }
 
 // FIELD, with its operand at place `at`. Question 5: does ingredient i exist, and is it a generator? Question 8 needs no asking: the limits of a
@@ -70,7 +81,9 @@ fn fill(list: &[u16], g: GeneratorAt, table: &mut [u8], levels: &mut [u8]) -> An
 {
     let runs = power(g.s as usize, g.t);
     put_levels(list, g, levels);
-    put_runs(list, g, runs, table);
+    let width = widest(list, g);
+    let sums = level_sums(g.s, width);
+    put_runs(list, g, runs, power(g.s as usize, width), &sums, table);
     Answer::Filled { runs, columns: g.n }
 }
 
@@ -90,92 +103,216 @@ fn put_levels(list: &[u16], g: GeneratorAt, levels: &mut [u8]) -> usize
     factor
 }
 
-// The runs: all tuples in counting order.
-fn put_runs(list: &[u16], g: GeneratorAt, runs: usize, table: &mut [u8]) -> usize
+// The most columns that a factor has.
+fn widest(list: &[u16], g: GeneratorAt) -> usize
+    requires { ⌜ GeneratorStands (now list) g ⌝ }
+    ensures { λ r. ⌜ WidthsTo (now (list .entry)) g r × (g .s ^ r ≤ 64) ⌝ }
+{
+    let widths_at = g.widths_at;
+    let mut most = 0;
+    let mut factor = 0;
+    while factor < g.n {
+        most = larger(most, list[widths_at + factor] as usize);
+        factor += 1;
+    }
+    most
+}
+
+// The larger of two numbers.
+fn larger(a: usize, b: usize) -> usize
+    ensures { λ r. ⌜ r ≡ max a b ⌝ }
+{
+    if a < b { b } else { a }
+}
+
+// The sums of any two levels below s to the power of `width`, digit by digit in the field. That of the digits before the last is there already.
+fn level_sums(s: u8, width: usize) -> [u8; 4096]
+    requires { ⌜ T (fieldSize s) × (s ^ width ≤ 64) ⌝ }
+    ensures { λ r. ⌜ SumsOf s width (s ^ width * s ^ width) r ⌝ }
+{
+    let base = s as usize;
+    let most = power(base, width);
+    let mut sums = [0u8; 4096];
+    let mut place = 1;
+    while place < most * most {
+        let x = place / most;
+        let y = place % most;
+        let before = sums[x / base * most + y / base];
+        sums[place] = before * s + galois::sum(s, (x % base) as u8, (y % base) as u8);
+        place += 1;
+    }
+    sums
+}
+
+// The runs: all tuples in counting order. Where a tuple has one digit that is not 0, its run is that digit times a row; any other run is the sum of
+// two before it, at one look-up for each level.
+fn put_runs(
+    list: &[u16],
+    g: GeneratorAt,
+    runs: usize,
+    most: usize,
+    sums: &[u8],
+    table: &mut [u8],
+) -> usize
     requires { ⌜ GeneratorStands (now list) g ⌝ }
     requires { ⌜ runs ≡ g .s ^ g .t ⌝ }
+    requires { ⌜ Sums (now list) g most (now sums) ⌝ }
     requires { ⌜ 65536 ≤ length (now table) ⌝ }
     ensures { λ r. ⌜ Put (now (table .entry)) 0 (runsOf (fieldStep (generatorIn (now (list .entry)) g))) (now (table .exit)) r ⌝ }
 {
+    let mut lead = Leading {
+        run: 0,
+        span: 1,
+        row: g.t - 1,
+        digit: 0,
+    };
     let mut place = 0;
     let mut run = 0;
     while run < runs {
-        place = put_run(list, g, run, table, place);
+        lead = next_leading(g, lead, run);
+        place = put_run(list, g, lead, run, most, sums, table, place);
         run += 1;
     }
     place
 }
 
-// One run: the level of each factor at the tuple whose number is `run`.
-fn put_run(list: &[u16], g: GeneratorAt, run: usize, table: &mut [u8], at: usize) -> usize
+// The last run up to `run` whose tuple has one digit, where `before` is the last up to the run before.
+fn next_leading(g: GeneratorAt, before: Leading, run: usize) -> Leading
+    requires { ⌜ T (fieldSize (g .s)) × (g .s ^ g .t ≤ 512) ⌝ }
+    requires { ⌜ Leads g before × (before .run ≤ run) × (run ≤ before .run + before .span) ⌝ }
+    requires { ⌜ run < g .s ^ g .t ⌝ }
+    ensures { λ r. ⌜ Leads g r × (r .run ≤ run) × (run < r .run + r .span) ⌝ }
+{
+    if run < before.run + before.span {
+        return before;
+    }
+    if before.digit + 1 < g.s {
+        return Leading {
+            run,
+            span: before.span,
+            row: before.row,
+            digit: before.digit + 1,
+        };
+    }
+    Leading {
+        run,
+        span: run,
+        row: before.row - 1,
+        digit: 1,
+    }
+}
+
+// One run: a digit times a row of the generator, or the sum of two runs that are there.
+fn put_run(
+    list: &[u16],
+    g: GeneratorAt,
+    lead: Leading,
+    run: usize,
+    most: usize,
+    sums: &[u8],
+    table: &mut [u8],
+    at: usize,
+) -> usize
     requires { ⌜ GeneratorStands (now list) g ⌝ }
+    requires { ⌜ Leads g lead × (lead .run ≤ run) × (run < lead .run + lead .span) ⌝ }
+    requires { ⌜ Sums (now list) g most (now sums) ⌝ }
+    requires { ⌜ RunsBefore (fieldStep (generatorIn (now list) g)) run (now table) at ⌝ }
     requires { ⌜ at + g .n ≤ length (now table) ⌝ }
     ensures { λ r. ⌜ Put (now (table .entry)) at (runOf (fieldStep (generatorIn (now (list .entry)) g)) run) (now (table .exit)) r ⌝ }
 {
-    let coordinates = tuple_of(run, g.s, g.t);
-    let t = g.t;
-    let tuple = &coordinates[0..t];
+    if run == lead.run {
+        put_multiple(list, g, lead.row, lead.digit, table, at)
+    } else {
+        put_sum(
+            lead.run * g.n,
+            (run - lead.run) * g.n,
+            g.n,
+            most,
+            sums,
+            table,
+            at,
+        )
+    }
+}
+
+// The run of the tuple with a digit in one row and zeros in the others.
+fn put_multiple(
+    list: &[u16],
+    g: GeneratorAt,
+    row: usize,
+    digit: u8,
+    table: &mut [u8],
+    at: usize,
+) -> usize
+    requires { ⌜ GeneratorStands (now list) g ⌝ }
+    requires { ⌜ (row < g .t) × (digit < g .s) ⌝ }
+    requires { ⌜ at + g .n ≤ length (now table) ⌝ }
+    ensures { λ r. ⌜ Put (now (table .entry)) at (runOf (fieldStep (generatorIn (now (list .entry)) g)) (single g row digit)) (now (table .exit)) r ⌝ }
+{
     let widths_at = g.widths_at;
     let mut place = at;
     let mut column = 0;
     let mut factor = 0;
     while factor < g.n {
         let width = list[widths_at + factor] as usize;
-        place = put_byte(table, place, factor_level(list, g, tuple, column, width));
+        place = put_byte(
+            table,
+            place,
+            multiple_level(list, g, row, digit, column, width),
+        );
         column += width;
         factor += 1;
     }
     place
 }
 
-// The tuple whose number is `run`: its t digits base s, the first highest, and zeros up to nine.
-fn tuple_of(run: usize, s: u8, t: usize) -> [u8; 9]
-    requires { ⌜ (0 < s) × (t ≤ 9) ⌝ }
-    ensures { λ r. ⌜ r ≡ padded 9 (digits s t run) ⌝ }
-{
-    let mut tuple = [0; 9];
-    let mut rest = run;
-    let mut at = t;
-    while 0 < at {
-        at -= 1;
-        tuple[at] = (rest % s as usize) as u8;
-        rest /= s as usize;
-    }
-    tuple
-}
-
-// The level of a factor: the tuple times each of its `width` columns, which start at `column`, read as one base-s number, the first value highest
-// (by Horner's rule).
-fn factor_level(list: &[u16], g: GeneratorAt, tuple: &[u8], column: usize, width: usize) -> u8
+// The level of a factor in that run: the digit times the elements of the row in its `width` columns, which start at `column`, read as one base-s
+// number, the first value highest (by Horner's rule).
+fn multiple_level(
+    list: &[u16],
+    g: GeneratorAt,
+    row: usize,
+    digit: u8,
+    column: usize,
+    width: usize,
+) -> u8
     requires { ⌜ GeneratorStands (now list) g ⌝ }
-    requires { ⌜ TupleOf g (now tuple) ⌝ }
+    requires { ⌜ (row < g .t) × (digit < g .s) ⌝ }
     requires { ⌜ ColumnsIn g column width ⌝ }
-    ensures { λ r. ⌜ r ≡ numeral (g .s) (values (fieldSum (g .s)) (fieldProduct (g .s)) (generatorIn (now (list .entry)) g) (now (tuple .entry)) (from column width)) ⌝ }
+    ensures { λ r. ⌜ r ≡ numeral (g .s) (values (fieldSum (g .s)) (fieldProduct (g .s)) (generatorIn (now (list .entry)) g) (digits (g .s) (g .t) (single g row digit)) (from column width)) ⌝ }
 {
+    let start = g.entries_at + row * g.width + column;
     let mut level = 0;
     let mut i = 0;
     while i < width {
-        level = level * g.s + column_value(list, g, tuple, column + i);
+        let product = galois::product(g.s, digit, list[start + i] as u8);
+        level = level * g.s + product;
         i += 1;
     }
     level
 }
 
-// The tuple times a column. The definition sums from the right, so the loop goes from the last coordinate to the first.
-fn column_value(list: &[u16], g: GeneratorAt, tuple: &[u8], column: usize) -> u8
-    requires { ⌜ GeneratorStands (now list) g ⌝ }
-    requires { ⌜ TupleOf g (now tuple) ⌝ }
-    requires { ⌜ column < g .width ⌝ }
-    ensures { λ r. ⌜ r ≡ combination (fieldSum (g .s)) (fieldProduct (g .s)) (now (tuple .entry)) (columnElements (generatorIn (now (list .entry)) g) column) ⌝ }
+// The sum of two runs of n levels in the table, level by level.
+fn put_sum(
+    one: usize,
+    other: usize,
+    n: usize,
+    most: usize,
+    sums: &[u8],
+    table: &mut [u8],
+    at: usize,
+) -> usize
+    requires { ⌜ (one + n ≤ at) × (other + n ≤ at) × (at + n ≤ length (now table)) ⌝ }
+    requires { ⌜ SumsStand most (now sums) (now table) one other n ⌝ }
+    ensures { λ r. ⌜ Put (now (table .entry)) at (runSum most (now (sums .entry)) (now (table .entry)) one other n) (now (table .exit)) r ⌝ }
 {
-    let mut value = 0;
-    let mut j = g.t;
-    let mut place = g.entries_at + g.t * g.width + column;
-    while 0 < j {
-        j -= 1;
-        place -= g.width;
-        let product = galois::product(g.s, tuple[j], list[place] as u8);
-        value = galois::sum(g.s, product, value);
+    let mut place = at;
+    let mut i = 0;
+    while i < n {
+        let x = table[one + i] as usize;
+        let y = table[other + i] as usize;
+        place = put_byte(table, place, sums[x * most + y]);
+        i += 1;
     }
-    value
+    place
 }

@@ -1,132 +1,76 @@
--- `put_run` meets its contract. The invariant: the levels of the first factors are put, and the next factor's columns start at `column`.
+-- `put_run` meets its contract: the run with a single digit is that digit's multiple, and any other the sum of two runs that are there.
 -- Assumes nothing.
-use mathlib.Core.Path.{_≡_, refl, sym}
-use Prim.Native.Nat.{_+_, _-_, _≤_}
+use mathlib.Core.Path.{sym}
+use native.Mathlib.Numerals.{lt-of-le-of-ne}
 use native.Mathlib.Omega.{arith}
 use borrow.Author.Needs.{needs}
-use lib.ListN.{take}
-use Rattle.finite.specs.Sum.{sum}
-use Rattle.counting.specs.Digits.{digits}
-use Rattle.counting.proofs.Combinings.{size-positive}
-use Rattle.buffers.specs.Put.{Put}
-use Rattle.buffers.proofs.Puts.{put-none, put-length}
-use Rattle.layout.specs.Bytes.{runOf}
-use Rattle.layout.proofs.Bytes.{run-length}
-use Rattle.layout.proofs.Rows.{put-room, put-level, put-all}
-use Rattle.opening.proofs.FieldRuns.{tuple-long, tuple-front}
-use Rattle.opening.proofs.FieldSheet.{sheetOf, columnsBefore, sheet-columns, columns-next, factor-columns, run-tuple, sheet-cell}
+use Rattle.opening.proofs.FieldLeads.{lead-single, lead-room, rest-room, sums-stand, run-summed}
 use Rattle.opening.proofs.field.put_run.Statement.{statement}
 use Rattle.opening.proofs.field.put_run.Tie as tie
 
-abbrev Inv-loop : tie.InvT-loop
-Inv-loop list g run table₀ at t tuple widths-at place₀ column₀ factor₀ table place column factor =
-    (factor ≤ g .n)
-    × (column ≡ columnsBefore list g factor)
-    × (tuple ≡ digits (g .s) (g .t) run)
-    × Put table₀ at (take factor (runOf (sheetOf list g) run)) table place
+put-multiple-requires : tie.Need-put-multiple-requires
+put-multiple-requires c κs =
+    let pre = c .before .before .before .before .before .before .pre in
+    (pre .0, ((pre .1 .0 .0 .row-in, pre .1 .0 .0 .digit-below), pre .1 .1 .1 .1))
 
-abbrev μ-loop : tie.MeasureT-loop
-μ-loop list g run table₀ at t tuple widths-at place₀ column₀ factor₀ table place column factor = g .n - factor
+mul-put-sum : tie.Need-mul-put-sum
+mul-put-sum c =
+    let start = c .before .before .before .before .before .before .before in
+    let pre = start .pre in
+    let other = lt-of-le-of-ne (pre .1 .0 .1) (λ e. c .before .before .if1 .left (sym e)) in
+    let room = lead-room (pre .0) (pre .1 .0 .0) (pre .1 .0 .1) (pre .1 .0 .2) (pre .1 .1 .0) (pre .1 .1 .1 .0) other in
+    omega (arith, room, start .fits .at)
 
-tuple-of-requires : tie.Need-tuple-of-requires Inv-loop μ-loop
-tuple-of-requires c κs = let k = c .before .before .pre .0 in (size-positive _ (k .size), k .coordinates-most)
+sub-put-sum : tie.Need-sub-put-sum
+sub-put-sum c = search needs
 
-sub-tuple : tie.Need-sub-tuple Inv-loop μ-loop
-sub-tuple c = search needs
-
-part-tuple-start : tie.Need-part-tuple-start Inv-loop μ-loop
-part-tuple-start c = search needs
-
-part-tuple-end : tie.Need-part-tuple-end Inv-loop μ-loop
-part-tuple-end c = rw (c .before .tuple-of .ensures) (tuple-long _ 9 _ _)
-
-loop-holds : tie.Need-loop-holds Inv-loop μ-loop
-unfolding sum
-loop-holds c = (search needs, refl, rw (c .before .before .tuple-of .ensures) (tuple-front _ 9 _ _), put-none _ _ (omega arith))
-
-add-width : tie.Need-add-width Inv-loop μ-loop
-add-width c = let k = c .before .before .before .before .before .before .before .before .pre .0 in omega (arith, k .widths-in, k .short)
-
-mul-width : tie.Need-mul-width Inv-loop μ-loop
-mul-width c = let k = c .before .before .before .before .before .before .before .before .pre .0 in omega (arith, k .widths-in, k .short)
-
-shared-slice-read-width : tie.Need-shared-slice-read-width Inv-loop μ-loop
-shared-slice-read-width c =
-    let k = c .before .before .before .before .before .before .before .before .before .pre .0 in omega (arith, k .widths-in)
-
-cast-width : tie.Need-cast-width Inv-loop μ-loop
-cast-width c =
+mul-put-sum-2 : tie.Need-mul-put-sum-2
+mul-put-sum-2 c =
     let start = c .before .before .before .before .before .before .before .before .before in
-    omega (arith, c .shared-slice-known2 .given (start .args .g .«widths_at» + c .before .before .before .loop .factor))
+    let pre = start .pre in
+    let other = lt-of-le-of-ne (pre .1 .0 .1) (λ e. c .before .before .before .before .if1 .left (sym e)) in
+    let room = rest-room (pre .0) (pre .1 .0 .0) (pre .1 .0 .1) (pre .1 .0 .2) (pre .1 .1 .0) (pre .1 .1 .1 .0) other in
+    omega (arith, room, start .fits .at)
 
-factor-level-requires : tie.Need-factor-level-requires Inv-loop μ-loop
-factor-level-requires c κs =
-    let k = c .before .before .before .before .before .before .before .before .before .before .pre .0 in
-    let l = c .before .before .before .before .loop in
-    (k, (rw (l .inv .2) (run-tuple k _), rw (l .inv .1) (factor-columns k _ (c .before .before .if1 .taken))))
-
-put-byte-requires : tie.Need-put-byte-requires Inv-loop μ-loop
-put-byte-requires c κs =
-    let start = c .before .before .before .before .before .before .before .before .before .before .before in
-    let l = c .before .before .before .before .before .loop in
-    put-room _ (l .factor) (l .inv .3) (rw (run-length, sheet-columns (start .pre .0)) (c .before .before .before .if1 .taken))
-    (rw (run-length, sheet-columns (start .pre .0)) (start .pre .1))
-
-add-column : tie.Need-add-column Inv-loop μ-loop
-add-column c =
-    let k = c .before .before .before .before .before .before .before .before .before .before .before .before .before .before .pre .0 in
-    let l = c .before .before .before .before .before .before .before .before .loop in
-    let taken = c .before .before .before .before .before .before .if1 .taken in
-    let g = c .before .before .before .before .before .before .before .struct-known .given in
-    omega (arith, l .inv .1, factor-columns k (l .factor) taken .within, g .1 .1 .1 .1 .0)
-
-add-factor : tie.Need-add-factor Inv-loop μ-loop
-add-factor c = search needs
-
-loop-less : tie.Need-loop-less Inv-loop μ-loop
-loop-less c = search needs
-
-loop-again : tie.Need-loop-again Inv-loop μ-loop
-loop-again c =
-    let k = c .before .before .before .before .before .before .before .before .before .before .before .before .before .before .pre .0 in
-    let l = c .before .before .before .before .before .before .before .before .loop in
-    let taken = c .before .before .before .before .before .before .if1 .taken in (
-      search needs,
-      rw (l .inv .1) (sym (columns-next k (l .factor) taken)),
-      l .inv .2,
-      put-level _ _ (l .factor) (rw (sheet-columns k) taken)
-          (rw (c .before .before .before .factor-level .ensures, l .inv .2, l .inv .1) (sheet-cell k _ (l .factor) taken)) (l .inv .3)
-          (c .before .before .put-byte .ensures),
+put-sum-requires : tie.Need-put-sum-requires
+put-sum-requires c κs =
+    let pre = c .before .before .before .before .before .before .before .before .before .before .pre in
+    let other = lt-of-le-of-ne (pre .1 .0 .1) (λ e. c .before .before .before .before .before .if1 .left (sym e)) in (
+      (
+        lead-room (pre .0) (pre .1 .0 .0) (pre .1 .0 .1) (pre .1 .0 .2) (pre .1 .1 .0) (pre .1 .1 .1 .0) other,
+        rest-room (pre .0) (pre .1 .0 .0) (pre .1 .0 .1) (pre .1 .0 .2) (pre .1 .1 .0) (pre .1 .1 .1 .0) other,
+        pre .1 .1 .1 .1,
+      ),
+      sums-stand (pre .0) (pre .1 .0 .0) (pre .1 .0 .1) (pre .1 .0 .2) (pre .1 .1 .0) (pre .1 .1 .1 .0) other,
     )
 
-same-length : tie.Need-same-length Inv-loop μ-loop
-same-length c = put-length (c .before .before .loop .inv .3)
+same-length : tie.Need-same-length
+same-length c = search needs
 
-returns : tie.Need-returns Inv-loop μ-loop
+returns : tie.Need-returns
 returns c =
-    let k = c .before .before .before .before .before .before .before .before .pre .0 in
-    put-all (c .before .before .loop .factor) (c .before .before .loop .inv .3) (rw (run-length, sheet-columns k) (c .if1 .left))
+    let pre = c .before .before .before .before .before .before .before .before .before .pre in
+    rw (c .before .before .before .before .if1 .taken, lead-single _ (pre .0 .size) (pre .1 .0 .0)) (c .before .before .put-multiple .ensures)
+
+same-length-2 : tie.Need-same-length-2
+same-length-2 c = search needs
+
+returns-2 : tie.Need-returns-2
+returns-2 c =
+    let pre = c .before .before .before .before .before .before .before .before .before .before .before .before .before .pre in
+    let other = lt-of-le-of-ne (pre .1 .0 .1) (λ e. c .before .before .before .before .before .before .before .before .if1 .left (sym e)) in
+    rw (← run-summed (pre .0) (pre .1 .0 .0) (pre .1 .0 .1) (pre .1 .0 .2) (pre .1 .1 .0) (pre .1 .1 .1 .0) other) (c .before .before .put-sum .ensures)
 
 pub put-run-spec : {M : Type 1} → statement M
 put-run-spec =
     tie.close
     (tie.spec
-    Inv-loop
-    μ-loop
-    tuple-of-requires
-    sub-tuple
-    part-tuple-start
-    part-tuple-end
-    loop-holds
-    add-width
-    mul-width
-    shared-slice-read-width
-    cast-width
-    factor-level-requires
-    put-byte-requires
-    add-column
-    add-factor
-    loop-less
-    loop-again
+    put-multiple-requires
+    mul-put-sum
+    sub-put-sum
+    mul-put-sum-2
+    put-sum-requires
     same-length
-    returns)
+    returns
+    same-length-2
+    returns-2)
