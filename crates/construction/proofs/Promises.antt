@@ -25,8 +25,8 @@ use Rattle.sheets.proofs.Carried.{refused-not-filled}
 use Rattle.sheets.proofs.Filled.{filled-fillable, fillable-filled, filled-sound}
 use Rattle.layout.specs.Bytes.{runsOf, zeros, padded, Holds, Zeros, LongEnough}
 use Rattle.layout.specs.Step.{Left}
-use Rattle.construction.specs.Promise.{suffice, planned, answerTo, tableBytes, levelBytes, EvenBytes, Promise}
-use Rattle.layout.proofs.Bytes.{runs-length, runs-cell}
+use Rattle.construction.specs.Promise.{suffice, planned, answerTo, tableBytes, levelBytes, Settled, EvenBytes, Promise}
+use Rattle.layout.proofs.Bytes.{runs-length, runs-cell, zeros-all}
 use Rattle.layout.proofs.Sheets.{padded-length, padded-at, cells-few}
 
 -- ---- a sound table in bytes is even there
@@ -189,11 +189,10 @@ unfolding Left tableBytes levelBytes
 left-filled (filled S) n m table levels left = (left .1 .runs-first, left .1 .levels-first)
 left-filled (refused why) n m table levels left = absurd (refused-unfilled (sym left))
 
-left-refused : (x : Outcome) (why : Refusal) (table levels : List ℕ) → Left x (Refused why) table levels
-    → (n : ℕ) → (zeros n ≡ tableBytes n x) × (zeros n ≡ levelBytes n x)
-unfolding Left tableBytes levelBytes
-left-refused (filled S) why table levels left n = absurd (refused-unfilled (left .0))
-left-refused (refused other) why table levels left n = (refl, refl)
+left-refused : (x : Outcome) (why : Refusal) (table levels : List ℕ) → Left x (Refused why) table levels → x ≡ refused why
+unfolding Left
+left-refused (filled S) why table levels left = absurd (refused-unfilled (left .0))
+left-refused (refused other) why table levels left = ap refused cc
 
 -- question 1 decides whether the others are asked
 planned-short : (list : List ℕ) (n m k : ℕ) → suffice n m k ≡ false → planned list n m k ≡ refused ShortBuffers
@@ -204,29 +203,29 @@ planned-long : (list : List ℕ) (n m k : ℕ) → suffice n m k ≡ true → pl
 unfolding planned
 planned-long list n m k long = ap (λ b. cond b (outcome list) (refused ShortBuffers)) long
 
--- what a filled or a refused outcome leaves, in buffers that are cleared where it is refused
-pub settled-filled : (x : Outcome) {answer : Answer} (n m : ℕ) (table levels : List ℕ) (k l : ℕ) → answer ≡ Filled n m → Left x answer table levels
-    → length table ≡ k → length levels ≡ l
-    → (Filled n m ≡ answerTo x) × (table ≡ tableBytes k x) × (levels ≡ levelBytes l x)
-settled-filled x n m table levels k l is left table-kept levels-kept =
+-- what a filled outcome leaves
+pub settled-filled : (x : Outcome) {answer : Answer} (n m : ℕ) {table levels : List ℕ} → answer ≡ Filled n m → Left x answer table levels
+    → Settled x (Filled n m) table levels
+settled-filled x n m {table} {levels} is left =
     let fills = rw is at left in
-    let bytes = left-filled x n m table levels fills in (
-      left-answer x table levels fills,
-      bytes .0 ∙ ap (λ i. tableBytes i x) table-kept,
-      bytes .1 ∙ ap (λ i. levelBytes i x) levels-kept,
-    )
+    let bytes = left-filled x n m table levels fills in
+    record { answered = left-answer x table levels fills; table-is = bytes .0; levels-are = bytes .1 }
 
-pub settled-refused : (x : Outcome) {answer : Answer} (why : Refusal) (left-table left-levels table levels : List ℕ) (k l : ℕ)
+-- zeros, where the outcome is a refusal
+pub settled-zeros : {x : Outcome} {why : Refusal} {table levels : List ℕ} → x ≡ refused why → Zeros table → Zeros levels
+    → Settled x (Refused why) table levels
+unfolding Zeros answerTo tableBytes levelBytes
+settled-zeros refuses table-clear levels-clear =
+    record { answered = rw refuses; table-is = rw refuses table-clear; levels-are = rw refuses levels-clear }
+
+pub settled-refused : (x : Outcome) {answer : Answer} (why : Refusal) (left-table left-levels : List ℕ) {table levels : List ℕ}
     → answer ≡ Refused why → Left x answer left-table left-levels
     → table ≡ zeros (length left-table) → levels ≡ zeros (length left-levels)
-    → length left-table ≡ k → length left-levels ≡ l
-    → (Refused why ≡ answerTo x) × (table ≡ tableBytes k x) × (levels ≡ levelBytes l x)
-settled-refused x why left-table left-levels table levels k l is left table-is levels-are table-kept levels-kept =
-    let refuses = rw is at left in (
-      left-answer x left-table left-levels refuses,
-      table-is ∙ ap zeros table-kept ∙ left-refused x why left-table left-levels refuses k .0,
-      levels-are ∙ ap zeros levels-kept ∙ left-refused x why left-table left-levels refuses l .1,
-    )
+    → Settled x (Refused why) table levels
+settled-refused x why left-table left-levels is left table-is levels-are =
+    settled-zeros (left-refused x why left-table left-levels (rw is at left))
+    (zeros-all (length left-table) table-is)
+    (zeros-all (length left-levels) levels-are)
 
 -- The promise of `plan`, where the buffers were cleared first.
 module _ (list table levels scratch : List ℕ) {clear-table clear-levels clear-scratch : List ℕ} (cleared : clear-table ≡ zeros (length table))
@@ -260,15 +259,14 @@ module _ (list table levels scratch : List ℕ) {clear-table clear-levels clear-
     pub cleared-long : LongEnough clear-table clear-levels clear-scratch
     cleared-long = long-enough clear-table clear-levels clear-scratch .0 (subst T enough tt)
 
-    pub promise-asked : {answer : Answer} {table′ levels′ scratch′ : List ℕ} → answer ≡ answerTo (outcome list)
-        → table′ ≡ tableBytes (length clear-table) (outcome list) → levels′ ≡ levelBytes (length clear-levels) (outcome list)
-        → Zeros scratch′ → length scratch′ ≡ length clear-scratch
+    pub promise-asked : {answer : Answer} {table′ levels′ scratch′ : List ℕ} → Settled (outcome list) answer table′ levels′ → Zeros scratch′
+        → length table′ ≡ length clear-table → length levels′ ≡ length clear-levels → length scratch′ ≡ length clear-scratch
         → Promise list table levels scratch answer table′ levels′ scratch′
     unfolding Zeros
-    promise-asked {answer} {table′} {levels′} {scratch′} answered table-is levels-are clear kept =
+    promise-asked {answer} {table′} {levels′} {scratch′} settled clear table-kept levels-kept scratch-kept =
         let asked = sym (planned-long list (length table) (length levels) (length scratch) (sym (enough ∙ same-lengths))) in
         promised list table levels scratch answer table′ levels′ scratch′
-        (answered ∙ ap answerTo asked)
-        (table-is ∙ ap₂ tableBytes same-table asked)
-        (levels-are ∙ ap₂ levelBytes same-levels asked)
-        (clear ∙ ap zeros (kept ∙ same-scratch))
+        (settled .answered ∙ ap answerTo asked)
+        (settled .table-is ∙ ap₂ tableBytes (table-kept ∙ same-table) asked)
+        (settled .levels-are ∙ ap₂ levelBytes (levels-kept ∙ same-levels) asked)
+        (clear ∙ ap zeros (scratch-kept ∙ same-scratch))

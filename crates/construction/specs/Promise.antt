@@ -39,6 +39,12 @@ unfoldable pub levelBytes : ℕ → Outcome → List ℕ
 levelBytes n (filled S) = padded n (S .levels)
 levelBytes n (refused why) = zeros n
 
+-- what is there where a list comes to an outcome: the answer, and every byte of the run table and the level list
+pub record Settled (x : Outcome) (answer : Answer) (table levels : List ℕ) : Type 0 where
+  pub answered : answer ≡ answerTo x
+  pub table-is : table ≡ tableBytes (length table) x
+  pub levels-are : levels ≡ levelBytes (length levels) x
+
 -- Demand 3, read off the bytes that were handed back: N runs of m columns lie one after the other in the run table, and the level counts in the
 -- level list.
 pub record EvenBytes (N m : ℕ) (table levels : List ℕ) : Type 0 where

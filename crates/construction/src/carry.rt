@@ -4,6 +4,8 @@ ghost use lib.ListN.{length};
 ghost use Rattle.layout.specs.Bytes.{Zeros, LongEnough, sheetIn};
 ghost use Rattle.layout.specs.Step.{Readable, Stands, Ready, firstIn, laterIn, Left};
 ghost use Rattle.construction.specs.Carry.{Passing, Underway, startIn, proceedIn, allIn};
+ghost use Rattle.construction.specs.Promise.{Settled};
+use buffers::clear;
 use layout::Size;
 use merging::merge;
 use opening::field::field;
@@ -130,12 +132,7 @@ fn later_steps(
 }
 
 // All steps.
-pub(crate) fn carry_out(
-    list: &[u16],
-    table: &mut [u8],
-    levels: &mut [u8],
-    scratch: &mut [u8],
-) -> Answer
+fn carry_out(list: &[u16], table: &mut [u8], levels: &mut [u8], scratch: &mut [u8]) -> Answer
     requires { ⌜ Passing (now list) ⌝ }
     requires { ⌜ LongEnough (now table) (now levels) (now scratch) ⌝ }
     requires { ⌜ Zeros (now table) × Zeros (now levels) × Zeros (now scratch) ⌝ }
@@ -147,5 +144,28 @@ pub(crate) fn carry_out(
             later_steps(list, Size { runs, columns }, table, levels, scratch)
         }
         Answer::Refused(why) => Answer::Refused(why),
+    }
+}
+
+// All steps; where one of them refuses the order, the sheet before it is cleared.
+pub(crate) fn carry_or_clear(
+    list: &[u16],
+    table: &mut [u8],
+    levels: &mut [u8],
+    scratch: &mut [u8],
+) -> Answer
+    requires { ⌜ Passing (now list) ⌝ }
+    requires { ⌜ LongEnough (now table) (now levels) (now scratch) ⌝ }
+    requires { ⌜ Zeros (now table) × Zeros (now levels) × Zeros (now scratch) ⌝ }
+    ensures { λ r. ⌜ Settled (allIn (now (list .entry))) r (now (table .exit)) (now (levels .exit)) ⌝ }
+    ensures { λ r. ⌜ Zeros (now (scratch .exit)) ⌝ }
+{
+    match carry_out(list, table, levels, scratch) {
+        Answer::Filled { runs, columns } => Answer::Filled { runs, columns },
+        Answer::Refused(why) => {
+            clear(table);
+            clear(levels);
+            Answer::Refused(why)
+        }
     }
 }

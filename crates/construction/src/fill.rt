@@ -1,9 +1,10 @@
 // Questions 2 to 8, on clear buffers that are long enough.
 ghost use Rattle.sheets.specs.Outcome.{outcome};
 ghost use Rattle.layout.specs.Bytes.{Zeros, LongEnough};
-ghost use Rattle.layout.specs.Step.{Readable, Left};
+ghost use Rattle.layout.specs.Step.{Readable};
 ghost use Rattle.construction.specs.Carry.{passedIn};
-use crate::carry::carry_out;
+ghost use Rattle.construction.specs.Promise.{Settled};
+use crate::carry::carry_or_clear;
 use ingredients::passing::Passing;
 use ingredients::passing::first_failing;
 use order::Entries;
@@ -23,11 +24,11 @@ fn check_and_carry_out(
     requires { ⌜ Readable (now list) ⌝ }
     requires { ⌜ LongEnough (now table) (now levels) (now scratch) ⌝ }
     requires { ⌜ Zeros (now table) × Zeros (now levels) × Zeros (now scratch) ⌝ }
-    ensures { λ r. ⌜ Left (passedIn (now (list .entry))) r (now (table .exit)) (now (levels .exit)) ⌝ }
+    ensures { λ r. ⌜ Settled (passedIn (now (list .entry))) r (now (table .exit)) (now (levels .exit)) ⌝ }
     ensures { λ r. ⌜ Zeros (now (scratch .exit)) ⌝ }
 {
     match first_failing(list, scratch, levels) {
-        Passing::AllPass => carry_out(list, table, levels, scratch),
+        Passing::AllPass => carry_or_clear(list, table, levels, scratch),
         Passing::Refused(why) => Answer::Refused(why),
     }
 }
@@ -36,7 +37,7 @@ fn check_and_carry_out(
 pub(crate) fn fill(list: &[u16], table: &mut [u8], levels: &mut [u8], scratch: &mut [u8]) -> Answer
     requires { ⌜ LongEnough (now table) (now levels) (now scratch) ⌝ }
     requires { ⌜ Zeros (now table) × Zeros (now levels) × Zeros (now scratch) ⌝ }
-    ensures { λ r. ⌜ Left (outcome (now (list .entry))) r (now (table .exit)) (now (levels .exit)) ⌝ }
+    ensures { λ r. ⌜ Settled (outcome (now (list .entry))) r (now (table .exit)) (now (levels .exit)) ⌝ }
     ensures { λ r. ⌜ Zeros (now (scratch .exit)) ⌝ }
 {
     match read(list) {

@@ -3,10 +3,7 @@ mod carry; // carry.rt: the steps, one after the other
 mod fill; // fill.rt: questions 2 to 8
 
 ghost use mathlib.Core.Path.{_≡_};
-ghost use lib.ListN.{length};
-ghost use Rattle.sheets.specs.Outcome.{outcome};
-ghost use Rattle.layout.specs.Bytes.{Zeros, LongEnough};
-ghost use Rattle.construction.specs.Promise.{suffice, answerTo, tableBytes, levelBytes, Promise};
+ghost use Rattle.construction.specs.Promise.{suffice, Promise};
 use buffers::clear;
 use fill::fill;
 use sheets::answer::Answer;
@@ -25,25 +22,6 @@ fn long_enough(table: usize, levels: usize, scratch: usize) -> bool
     65536 <= scratch
 }
 
-// Questions 2 to 8; where one of them refuses the order, the buffers are cleared.
-fn fill_or_clear(list: &[u16], table: &mut [u8], levels: &mut [u8], scratch: &mut [u8]) -> Answer
-    requires { ⌜ LongEnough (now table) (now levels) (now scratch) ⌝ }
-    requires { ⌜ Zeros (now table) × Zeros (now levels) × Zeros (now scratch) ⌝ }
-    ensures { λ r. ⌜ r ≡ answerTo (outcome (now (list .entry))) ⌝ }
-    ensures { λ r. ⌜ now (table .exit) ≡ tableBytes (length (now (table .entry))) (outcome (now (list .entry))) ⌝ }
-    ensures { λ r. ⌜ now (levels .exit) ≡ levelBytes (length (now (levels .entry))) (outcome (now (list .entry))) ⌝ }
-    ensures { λ r. ⌜ Zeros (now (scratch .exit)) ⌝ }
-{
-    match fill(list, table, levels, scratch) {
-        Answer::Filled { runs, columns } => Answer::Filled { runs, columns },
-        Answer::Refused(why) => {
-            clear(table);
-            clear(levels);
-            Answer::Refused(why)
-        }
-    }
-}
-
 // Plans an order: writes the run table that the list orders, run by run, and its level counts, or refuses it and leaves zeros. Demands 1, 2 and 3
 // of document 01 are this one promise.
 pub fn plan(list: &[u16], table: &mut [u8], levels: &mut [u8], scratch: &mut [u8]) -> Answer
@@ -53,7 +31,7 @@ pub fn plan(list: &[u16], table: &mut [u8], levels: &mut [u8], scratch: &mut [u8
     clear(levels);
     clear(scratch);
     if long_enough(table.len(), levels.len(), scratch.len()) {
-        fill_or_clear(list, table, levels, scratch)
+        fill(list, table, levels, scratch)
     } else {
         Answer::Refused(Refusal::ShortBuffers)
     }

@@ -19,8 +19,8 @@ clear-requires-3 c κs = search needs
 long-enough-requires : tie.Need-long-enough-requires
 long-enough-requires c κs = search needs
 
-fill-or-clear-requires : tie.Need-fill-or-clear-requires
-fill-or-clear-requires c κs =
+fill-requires : tie.Need-fill-requires
+fill-requires c κs =
     let asked = c .before .before .before .before in
     let third = asked .before .before .before in
     let second = third .before .before .before .before in
@@ -57,11 +57,11 @@ returns c =
     let scratch = start .args .scratch .now in
     promise-asked list table levels scratch (first .clear .ensures) (second .clear2 .ensures) (third .clear3 .ensures)
     (sym (done .before .before .before .before .if1 .taken) ∙ asked .long-enough .ensures)
-    (done .fill-or-clear .ensures .0)
-    (done .fill-or-clear .ensures .1 .0)
-    (done .fill-or-clear .ensures .1 .1 .0)
-    (done .fill-or-clear .ensures .1 .1 .1)
-    (done .fill-or-clear .kept .1 .1 .1 .0)
+    (done .fill .ensures .0)
+    (done .fill .ensures .1)
+    (done .fill .kept .1 .0)
+    (done .fill .kept .1 .1 .0)
+    (done .fill .kept .1 .1 .1 .0)
 
 same-length-4 : tie.Need-same-length-4
 same-length-4 c = search needs
@@ -93,7 +93,7 @@ plan-spec =
     clear-requires-2
     clear-requires-3
     long-enough-requires
-    fill-or-clear-requires
+    fill-requires
     same-length
     same-length-2
     same-length-3

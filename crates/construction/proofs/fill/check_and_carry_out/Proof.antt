@@ -3,10 +3,10 @@ use borrow.Author.Needs.{needs}
 use mathlib.Core.Path.{refl, sym, _∙_}
 use lib.ListN.{length}
 use Rattle.layout.specs.Bytes.{Zeros}
-use Rattle.layout.specs.Step.{Left}
 use Rattle.layout.proofs.Bytes.{zeros-all}
 use Rattle.construction.proofs.Carrying.{long-kept}
 use Rattle.construction.proofs.Filling.{still-in-range, all-pass, passed-all, passed-refused}
+use Rattle.construction.proofs.Promises.{settled-zeros}
 use Rattle.construction.proofs.fill.check_and_carry_out.Statement.{statement}
 use Rattle.construction.proofs.fill.check_and_carry_out.Tie as tie
 
@@ -26,8 +26,8 @@ first-failing-requires c κs =
 enum-told : tie.Need-enum-told
 enum-told c = search needs
 
-carry-out-requires : tie.Need-carry-out-requires
-carry-out-requires c κs =
+carry-or-clear-requires : tie.Need-carry-or-clear-requires
+carry-or-clear-requires c κs =
     let asked = c .before .before .before .before .before .before .before .before .before in
     let start = asked .before .before .before .before .before .before .before in
     let pre = start .pre in
@@ -58,7 +58,7 @@ returns c =
     let asked = done .before .before .before .before .before .before .before .before .before .before in
     let pre = asked .before .before .before .before .before .before .before .pre in
     let found = sym (asked .first-failing .ensures .0) ∙ done .before .before .before .before .enum-told .given .1 in
-    (rw (passed-all (pre .0) found) (done .carry-out .ensures .0), done .carry-out .ensures .1)
+    (rw (passed-all (pre .0) found) (done .carry-or-clear .ensures .0), done .carry-or-clear .ensures .1)
 
 same-length-4 : tie.Need-same-length-4
 same-length-4 c = search needs
@@ -67,12 +67,14 @@ same-length-5 : tie.Need-same-length-5
 same-length-5 c = search needs
 
 returns-2 : tie.Need-returns-2
-unfolding Left
 returns-2 c =
     let asked = c .before .before .before .before .before .before .before in
     let start = asked .before .before .before .before .before .before .before in
-    let found = sym (asked .first-failing .ensures .0) ∙ c .before .why .given .1 in
-    (rw (passed-refused (start .pre .0) _ found), zeros-all (length (start .args .scratch .now)) (asked .first-failing .ensures .1 .0))
+    let found = sym (asked .first-failing .ensures .0) ∙ c .before .why .given .1 in (
+      settled-zeros (passed-refused (start .pre .0) _ found) (start .pre .1 .1 .0)
+          (zeros-all (length (start .args .levels .now)) (asked .first-failing .ensures .1 .1)),
+      zeros-all (length (start .args .scratch .now)) (asked .first-failing .ensures .1 .0),
+    )
 
 pub check-and-carry-out-spec : {M : Type 1} → statement M
 check-and-carry-out-spec =
@@ -80,7 +82,7 @@ check-and-carry-out-spec =
     (tie.spec
     first-failing-requires
     enum-told
-    carry-out-requires
+    carry-or-clear-requires
     enum-known-why
     same-length
     same-length-2

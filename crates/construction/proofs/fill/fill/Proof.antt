@@ -1,8 +1,8 @@
 -- `construction::fill::fill` meets its contract: questions 2 and 3, and where both pass the others.
 use borrow.Author.Needs.{needs}
 use mathlib.Core.Path.{sym, _∙_}
-use Rattle.layout.specs.Step.{Left}
 use Rattle.construction.proofs.Filling.{unreadable, reads, out-of-range, not-unread, readable, in-range-outcome}
+use Rattle.construction.proofs.Promises.{settled-zeros}
 use Rattle.construction.proofs.fill.fill.Statement.{statement}
 use Rattle.construction.proofs.fill.fill.Tie as tie
 
@@ -36,11 +36,10 @@ enum-told-3 : tie.Need-enum-told-3
 enum-told-3 c = search needs
 
 returns : tie.Need-returns
-unfolding Left
 returns c =
     let asked = c .before .before .before in
     let start = asked .before .before .before .before .before in
-    (rw (unreadable _ _ (sym (asked .read .ensures) ∙ c .before .place .given .1)), start .pre .1 .2)
+    (settled-zeros (unreadable _ _ (sym (asked .read .ensures) ∙ c .before .place .given .1)) (start .pre .1 .0) (start .pre .1 .1), start .pre .1 .2)
 
 same-length : tie.Need-same-length
 same-length c = search needs
@@ -60,12 +59,11 @@ returns-2 c =
     (rw (in-range-outcome _ read (sym (asked .first-out-of-range .ensures) ∙ told .enum-told2 .given .1)) (done .check-and-carry-out .ensures .0), done .check-and-carry-out .ensures .1)
 
 returns-3 : tie.Need-returns-3
-unfolding Left
 returns-3 c =
     let asked = c .before .before .before in
     let start = asked .before .before .before .before .before .before .before .before in
     let read = reads _ (sym (asked .before .before .before .read .ensures) ∙ asked .before .enum-told .given .1) in
-    (rw (out-of-range _ read _ (sym (asked .first-out-of-range .ensures) ∙ c .before .place2 .given .1)), start .pre .1 .2)
+    (settled-zeros (out-of-range _ read _ (sym (asked .first-out-of-range .ensures) ∙ c .before .place2 .given .1)) (start .pre .1 .0) (start .pre .1 .1), start .pre .1 .2)
 
 returns-4 : tie.Need-returns-4
 returns-4 c =

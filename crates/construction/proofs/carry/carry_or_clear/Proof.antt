@@ -1,11 +1,11 @@
--- `construction::fill_or_clear` meets its contract: what the questions leave, and zeros where they refuse.
+-- `construction::carry::carry_or_clear` meets its contract: what the steps leave, and zeros where one refuses.
 use borrow.Author.Needs.{needs}
 use Rattle.construction.proofs.Promises.{settled-filled, settled-refused}
-use Rattle.construction.proofs.fill_or_clear.Statement.{statement}
-use Rattle.construction.proofs.fill_or_clear.Tie as tie
+use Rattle.construction.proofs.carry.carry_or_clear.Statement.{statement}
+use Rattle.construction.proofs.carry.carry_or_clear.Tie as tie
 
-fill-requires : tie.Need-fill-requires
-fill-requires c κs = search needs
+carry-out-requires : tie.Need-carry-out-requires
+carry-out-requires c κs = search needs
 
 enum-known-runs : tie.Need-enum-known-runs
 enum-known-runs c = search needs
@@ -31,8 +31,7 @@ same-length-3 c = search needs
 returns : tie.Need-returns
 returns c =
     let done = c .before .before .before .before .before .before .before .before .before in
-    let settled = settled-filled _ _ _ _ _ _ _ (c .before .runs .given .1) (done .fill .ensures .0) (done .fill .kept .1 .0) (done .fill .kept .1 .1 .0) in
-    (settled .0, (settled .1, (settled .2, done .fill .ensures .1)))
+    (settled-filled _ _ _ (c .before .runs .given .1) (done .carry-out .ensures .0), done .carry-out .ensures .1)
 
 same-length-4 : tie.Need-same-length-4
 same-length-4 c = search needs
@@ -49,16 +48,13 @@ returns-2 c =
     let first = second .before .before .before .before in
     let told = first .before .before .before in
     let done = told .before .before .before .before .before .before .before .before in
-    let settled =
-    settled-refused _ _ _ _ _ _ _ _ (told .why .given .1) (done .fill .ensures .0) (first .clear .ensures) (second .clear2 .ensures) (done .fill .kept .1 .0) (done .fill .kept .1 .1 .0)
-    in
-    (settled .0, (settled .1, (settled .2, done .fill .ensures .1)))
+    (settled-refused _ _ _ _ (told .why .given .1) (done .carry-out .ensures .0) (first .clear .ensures) (second .clear2 .ensures), done .carry-out .ensures .1)
 
-pub fill-or-clear-spec : {M : Type 1} → statement M
-fill-or-clear-spec =
+pub carry-or-clear-spec : {M : Type 1} → statement M
+carry-or-clear-spec =
     tie.close
     (tie.spec
-    fill-requires
+    carry-out-requires
     enum-known-runs
     enum-known-why
     clear-requires
