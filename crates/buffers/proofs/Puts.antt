@@ -5,8 +5,8 @@ use Prim.Native.Nat.{ℕ, suc, _+_, _≤_, _<_}
 use native.Mathlib.Nat.{add-zero}
 use native.Mathlib.Numerals.{add-one}
 use native.Mathlib.Omega.{arith}
-use lib.ListN.{length, getD, take, drop, set, replicate, replicate-append-replicate, length-append, length-take, length-drop, take-append-drop}
-use lib.Seq.{take-all, length-take-le, take-suc, take-at, drop-append-add, drop-drop, set-split, append-snoc}
+use lib.ListN.{length, getD, take, drop, set, replicate, replicate-append-replicate, length-append, length-take, length-drop, take-append-drop, List·getD-append}
+use lib.Seq.{getD-take, take-all, length-take-le, take-suc, take-at, drop-append-add, drop-drop, set-split, append-snoc}
 use Rattle.buffers.specs.Put.{Put}
 
 pub put-none : (before : List ℕ) (at : ℕ) → at ≤ length before → Put before at [] before at
@@ -35,6 +35,14 @@ module _ {a : List ℕ} {i : ℕ} {xs b : List ℕ} {j : ℕ} (p : Put a i xs b 
   -- Up to the end stands what was there before and then the bytes; from the end on, all is as it was.
   kept-front : take j b ≡ take i a ++ xs
   kept-front = ap (take j) (p .holds) ∙ take-at (take i a ++ xs) (drop j a) j front
+
+  -- so a byte that stands before them stays
+  pub put-before : {k : ℕ} → k < i → getD b k 0 ≡ getD a k 0
+  put-before {k} h =
+      sym (getD-take j b k 0 (omega (arith, h, p .ends)))
+      ∙ ap (λ l. getD l k 0) kept-front
+      ∙ List·getD-append (take i a) xs 0 k (omega (arith, h, length-take i a, p .ends, p .fits))
+      ∙ getD-take i a k 0 h
 
   kept-back : (n : ℕ) → drop (j + n) b ≡ drop (j + n) a
   kept-back n =

@@ -7,6 +7,7 @@ pub mod Verdict
 pub mod GeneratorVerdict
 pub mod Combining
 pub mod Marks
+pub mod Tabulated
 pub mod Tally
 pub mod Checkable
 pub mod Failures

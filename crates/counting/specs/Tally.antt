@@ -1,11 +1,13 @@
 -- What the counters of a check hold.
 use mathlib.Core.Path.{_≡_}
-use Prim.Native.Nat.{ℕ, _+_, _*_, _≤_, _<_}
+use Prim.Native.Nat.{ℕ, _+_, _*_, _/_, _%_, _≤_, _<_}
 use mathlib.Core.List.{List}
 use lib.Dec.{eqb}
 use lib.ListN.{length, getD}
 use mathlib.Core.Option.{Option}
 use Rattle.finite.specs.Sum.{count}
+use Rattle.counting.specs.Matrix.{difference}
+use Rattle.counting.specs.Tabulated.{Tabulated}
 use Rattle.counting.specs.Verdict.{Counted, deviation}
 
 -- 4,096 counters, all zero
@@ -17,6 +19,10 @@ pub record Cleared (counters : List ℕ) : Type 0 where
 pub record Tallied (counters : List ℕ) (n : ℕ) (key : ℕ → ℕ) : Type 0 where
   pub size : length counters ≡ 4096
   pub counts : (k : ℕ) → getD counters k 0 ≡ count n (λ r. eqb (key r) k)
+
+-- the first n of the differences modulo p of two entries, that of x and y at x × p + y
+abbrev pub DifferencesOf : ℕ → ℕ → List ℕ → Type 0
+DifferencesOf p n differences = Tabulated (λ q. difference p (q / p) (q % p)) n differences
 
 -- cells in runs of so many columns, two of the columns, and a key for each run, below n, of which the counters hold all
 pub record Keyed (cells : List ℕ) (runs columns first second n : ℕ) (key : ℕ → ℕ) : Type 0 where

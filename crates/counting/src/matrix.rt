@@ -1,5 +1,6 @@
 // The check of a difference matrix: every difference of every two columns, counted over the rows.
 use crate::pairs::IndexPair;
+use crate::tally::difference_table;
 use crate::tally::differences_deviation;
 use crate::verdict::Deviation;
 use crate::verdict::DifferenceFault;
@@ -14,12 +15,22 @@ pub fn check_matrix(entries: &[u8], rows: usize, columns: usize, p: usize) -> Ma
     requires { ⌜ CheckableMatrix (now entries) rows columns p ⌝ }
     ensures { λ r. ⌜ r ≡ matrixVerdict (matrixOf (now (entries .entry)) rows columns p) ⌝ }
 {
+    let differences = difference_table(p);
     let mut counters = [0u16; 4096];
     let mut pair = IndexPair::start();
     while pair.second < columns {
         let first = pair.first;
         let second = pair.second;
-        match differences_deviation(entries, rows, columns, first, second, p, &mut counters) {
+        match differences_deviation(
+            entries,
+            rows,
+            columns,
+            first,
+            second,
+            p,
+            &differences,
+            &mut counters,
+        ) {
             Deviation::At { value, times } => {
                 return MatrixFinding::Fails(DifferenceFault {
                     first: first + 1,

@@ -3,10 +3,10 @@ use crate::verdict::Deviation;
 ghost use mathlib.Core.Path.{_≡_};
 ghost use Prim.Native.Nat.{ℕ, _+_, _*_, _≤_, _<_};
 ghost use lib.ListN.{length, getD};
-ghost use Rattle.counting.specs.Matrix.{matrixOf, difference, rowDifference};
+ghost use Rattle.counting.specs.Matrix.{matrixOf, rowDifference};
 ghost use Rattle.counting.specs.Checkable.{CheckableMatrix};
 ghost use Rattle.counting.specs.Verdict.{deviation, asDeviation, differenceDeviation};
-ghost use Rattle.counting.specs.Tally.{Cleared, Tallied, Keyed, levelsKey, keysDeviation};
+ghost use Rattle.counting.specs.Tally.{Cleared, Tallied, Keyed, DifferencesOf, levelsKey, keysDeviation};
 
 // The lowest of n keys that is not the key of the n-th part of the runs. A run's key is the level in `first` times `weight` plus the
 // level in `second`: with t for the weight it is the number of a pair of levels, with 0 the level in `second` alone.
@@ -37,15 +37,26 @@ pub fn differences_deviation(
     first: usize,
     second: usize,
     p: usize,
+    differences: &[u8],
     counters: &mut [u16],
 ) -> Deviation
     requires { ⌜ CheckableMatrix (now entries) rows columns p ⌝ }
     requires { ⌜ (first < columns) × (second < columns) ⌝ }
+    requires { ⌜ DifferencesOf p (p * p) (now differences) ⌝ }
     requires { ⌜ Cleared (now counters) ⌝ }
     ensures { λ r. ⌜ r ≡ asDeviation (differenceDeviation (matrixOf (now (entries .entry)) rows columns p) first second) ⌝ }
     ensures { λ r. ⌜ (r ≡ Deviation.Nowhere → Cleared (now (counters .exit))) ⌝ }
 {
-    tally_differences(entries, rows, columns, first, second, p, counters);
+    tally_differences(
+        entries,
+        rows,
+        columns,
+        first,
+        second,
+        p,
+        differences,
+        counters,
+    );
     first_deviation(counters, p, rows)
 }
 
@@ -81,10 +92,12 @@ fn tally_differences(
     first: usize,
     second: usize,
     p: usize,
+    differences: &[u8],
     counters: &mut [u16],
 )
     requires { ⌜ CheckableMatrix (now entries) rows columns p ⌝ }
     requires { ⌜ (first < columns) × (second < columns) ⌝ }
+    requires { ⌜ DifferencesOf p (p * p) (now differences) ⌝ }
     requires { ⌜ Cleared (now counters) ⌝ }
     ensures { λ _. ⌜ Tallied (now (counters .exit)) rows (rowDifference (matrixOf (now (entries .entry)) rows columns p) first second) ⌝ }
 {
@@ -93,19 +106,28 @@ fn tally_differences(
     while row < rows {
         let x = entries[start + first] as usize;
         let y = entries[start + second] as usize;
-        let key = difference(p, x, y);
+        let key = differences[x * p + y] as usize;
         counters[key] += 1;
         start += columns;
         row += 1;
     }
 }
 
-// x minus y modulo p, without a division for each row.
-fn difference(p: usize, x: usize, y: usize) -> usize
-    requires { ⌜ (x < p) × (y < p) × (p ≤ 64) ⌝ }
-    ensures { λ r. ⌜ r ≡ difference p x y ⌝ }
+// The difference of any two entries x and y, at x times p plus y. It is made once for a matrix, so that a row costs a look-up and neither a division
+// nor a branch.
+pub fn difference_table(p: usize) -> [u8; 4096]
+    requires { ⌜ (1 ≤ p) × (p ≤ 64) ⌝ }
+    ensures { λ r. ⌜ DifferencesOf p (p * p) r ⌝ }
 {
-    if y <= x { x - y } else { x + p - y }
+    let mut differences = [0u8; 4096];
+    let mut place = 0;
+    while place < p * p {
+        let x = place / p;
+        let y = place % p;
+        differences[place] = ((x + (p - y)) % p) as u8;
+        place += 1;
+    }
+    differences
 }
 
 // The lowest of n values whose counter is not the n-th part of the runs. Each counter that is read is set back to zero.

@@ -1,14 +1,14 @@
 -- The runs of FIELD one after the other: which has a single digit, and of which two each other is the sum.
 -- Assumes nothing.
 use mathlib.Core.Path.{_≡_, refl, sym, _∙_, ap, ap₂}
-use mathlib.Core.List.{List, _++_, flatMap}
+use mathlib.Core.List.{List, flatMap}
 use Prim.Native.Nat.{ℕ, zero, suc, _+_, _-_, _*_, _^_, _≤_, _<_}
 use native.Mathlib.Nat.{sub-self, pow-zero, pow-succ', zero-add, one-mul, suc-mul, le-refl, le-trans, lt-of-lt-of-le, pow-le-pow-right, mul-le-mul-right, one-le-pow}
 use native.Mathlib.Numerals.{add-one}
 use native.Mathlib.Omega.{arith}
-use lib.Arith.{digits-lt, digits-div, digits-mod}
+use lib.Arith.{digits-lt}
 use lib.Dec.{T}
-use lib.ListN.{getD, take, drop, length-append, length-take, List·getD-append}
+use lib.ListN.{getD}
 use lib.Seq.{getD-take}
 use Rattle.galois.specs.Arithmetic.{fieldSize}
 use Rattle.counting.proofs.Combinings.{size-positive}
@@ -19,6 +19,7 @@ use Rattle.buffers.specs.Put.{Put}
 use Rattle.layout.specs.Bytes.{runOf}
 use Rattle.buffers.proofs.Puts.{put-front}
 use Rattle.layout.proofs.Bytes.{map-below, pieces-length, pieces-at, run-length, run-at}
+use Rattle.counting.proofs.Tabulated.{looked-up}
 use Rattle.opening.specs.FieldPlaces.{GeneratorStands}
 use Rattle.opening.specs.LevelSums.{digitSums, WidthsTo, Sums, single, Leads, RunsBefore, SumsStand, runSum}
 use Rattle.opening.specs.declared.field.GeneratorAt.{GeneratorAt}
@@ -128,11 +129,11 @@ module _ {list : List ℕ} {g : GeneratorAt} (known : GeneratorStands list g) wh
           → getD sums (sheetOf list g .cell (lead .run) c * most + sheetOf list g .cell rest c) 0 ≡ sheetOf list g .cell run c
       unfolding WidthsTo
       sum-found c h =
-          let x = sheetOf list g .cell (lead .run) c in
-          let y = sheetOf list g .cell rest c in
-          s .all .each (x * most + y) (digits-lt (cell-few (lead .run) c h) (cell-few rest c h))
-          ∙ rw (← s .power, digits-div x (cell-few rest c h), digits-mod x (cell-few rest c h))
-          (sums-stable (g .s) (known .size) (widthAt list g c) (s .width) x y (s .widths c h) (cell-below (lead .run) c h) (cell-below rest c h))
+          let w = s .width in
+          let x-few = rw (s .power) at (cell-few (lead .run) c h) in
+          let y-few = rw (s .power) at (cell-few rest c h) in
+          rw (s .power) (looked-up (digitSums (g .s) w) (g .s ^ w) (rw (s .power) at (s .all)) x-few y-few)
+          ∙ sums-stable (g .s) (known .size) (widthAt list g c) w _ _ (s .widths c h) (cell-below (lead .run) c h) (cell-below rest c h)
           ∙ sym (cell-sum c h)
 
       -- ---- the two runs in the buffer
@@ -170,15 +171,6 @@ module _ {list : List ℕ} {g : GeneratorAt} (known : GeneratorStands list g) wh
         run-summed =
             rw (sheet-columns known)
             (map-below _ _ (g .n) (λ c h. rw (cell-at (lead .run) c other h, cell-at rest c rest-before h) (sum-found c h)))
-
--- ---- what stands before some bytes that are put stays
-
-pub put-before : {a xs b : List ℕ} {i j : ℕ} → Put a i xs b j → {k : ℕ} → k < i → getD b k 0 ≡ getD a k 0
-put-before {a} {xs} {b} {i} {j} p {k} h =
-    ap (λ l. getD l k 0) (p .holds)
-    ∙ List·getD-append (take i a ++ xs) (drop j a) 0 k (omega (arith, h, length-append (take i a) xs, length-take i a, p .ends, p .fits))
-    ∙ List·getD-append (take i a) xs 0 k (omega (arith, h, length-take i a, p .ends, p .fits))
-    ∙ getD-take i a k 0 h
 
 -- runs that are put one after the other from place 0 on stand there
 pub runs-before : (S : Table) {run place : ℕ} {a b : List ℕ} → Put a 0 (flatMap (runOf S) (from 0 run)) b place → RunsBefore S run b place

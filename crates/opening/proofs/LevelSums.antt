@@ -1,21 +1,18 @@
 -- The sums of levels, digit by digit: how they are found one from another, and that a run of FIELD is the sum of two before it.
 -- Assumes nothing.
-use mathlib.Core.Path.{_≡_, refl, sym, _∙_, ap}
-use mathlib.Core.Logic.{by-cases}
+use mathlib.Core.Path.{_≡_, refl, sym, ap}
 use mathlib.Core.List.{List}
 use Prim.Native.Nat.{ℕ, zero, suc, _+_, _-_, _*_, _/_, _%_, _^_, _≤_, _<_}
 use native.Mathlib.Nat.{pow-zero, pow-suc, zero-div, zero-mod, div-lt-iff-lt-mul, mod-lt, lt-of-lt-of-le, le-refl, one-le-pow, zero-mul, div-lt-self, div-le-self, lt-of-le-of-lt, div-add-mod'}
-use native.Mathlib.Numerals.{lt-of-le-of-ne}
-use native.Mathlib.Decide.{ℕ-discrete}
 use native.Mathlib.Omega.{arith}
 use lib.Arith.{digits-lt, digits-div, digits-mod}
 use lib.Dec.{T, lit≤}
-use lib.ListN.{getD, set, replicate, length-replicate, length-set, getD-replicate}
-use lib.Seq.{getD-set-same, getD-set-other}
+use lib.ListN.{getD, set, replicate, length-replicate, getD-replicate}
 use Rattle.galois.specs.Arithmetic.{fieldSize, fieldSum, fieldProduct}
 use Rattle.galois.specs.Laws.{Field}
 use Rattle.galois.proofs.Fields.{field}
 use Rattle.counting.proofs.FieldAlgebra.{zero-below, zero-plus, sum-below}
+use Rattle.counting.proofs.Tabulated.{tabulated-more}
 use Rattle.opening.specs.LevelSums.{digitSums, SumsOf}
 
 module _ (s : ℕ) (size : T (fieldSize s)) where
@@ -63,6 +60,7 @@ module _ (s : ℕ) (size : T (fieldSize s)) where
   -- ---- the sums, one after the other
 
   module _ (w : ℕ) where
+    -- the sum of no digits, or of zeros, stands at the first place
     pub sums-none : SumsOf s w 1 (replicate 4096 0)
     sums-none =
         record {
@@ -106,14 +104,7 @@ module _ (s : ℕ) (size : T (fieldSize s)) where
 
       pub sums-more : {sums : List ℕ} → SumsOf s w q sums → q < 4096
           → SumsOf s w (q + 1) (set sums q (getD sums (earlier q) 0 * s + fieldSum s (q / s ^ w % s) (q % s ^ w % s)))
-      sums-more {sums} f fits =
-          record {
-            places = length-set sums q _ ∙ f .places;
-            each = λ p h.
-                by-cases (ℕ-discrete p q)
-                (λ (same : p ≡ q). rw same (getD-set-same sums q _ 0 (rw (f .places) fits) ∙ sum-found f))
-                (λ (other : p ≡ q → ⊥). getD-set-other sums q p _ 0 other ∙ f .each p (lt-of-le-of-ne (omega (arith, h)) other));
-          }
+      sums-more f fits = tabulated-more f fits (sum-found f)
 
       -- and below 64
       pub sum-small : {sums : List ℕ} → SumsOf s w q sums → s ^ w ≤ 64

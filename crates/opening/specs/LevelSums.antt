@@ -7,6 +7,7 @@ use lib.ListN.{length, getD}
 use Rattle.galois.specs.Arithmetic.{fieldSum}
 use Rattle.counting.specs.Generator.{from}
 use Rattle.counting.specs.Table.{Table, columns}
+use Rattle.counting.specs.Tabulated.{Tabulated}
 use Rattle.opening.specs.declared.field.GeneratorAt.{GeneratorAt}
 use Rattle.opening.specs.declared.field.Leading.{Leading}
 
@@ -15,10 +16,9 @@ unfoldable pub digitSums : ℕ → ℕ → ℕ → ℕ → ℕ
 digitSums s zero x y = 0
 digitSums s (suc n) x y = digitSums s n (x / s) (y / s) * s + fieldSum s (x % s) (y % s)
 
--- the first n of the sums of two numbers of so many digits, one for each x and y below s ^ width, at x × s ^ width + y
-pub record SumsOf (s width n : ℕ) (sums : List ℕ) : Type 0 where
-  pub places : length sums ≡ 4096
-  pub each : (q : ℕ) → q < n → getD sums q 0 ≡ digitSums s width (q / s ^ width) (q % s ^ width)
+-- the first n of the sums of two numbers of so many digits, that of x and y at x × s ^ width + y
+abbrev pub SumsOf : ℕ → ℕ → ℕ → List ℕ → Type 0
+SumsOf s width n sums = Tabulated (λ q. digitSums s width (q / s ^ width) (q % s ^ width)) n sums
 
 -- no factor has more columns than n
 unfoldable pub WidthsTo : List ℕ → GeneratorAt → ℕ → Type 0

@@ -23,7 +23,7 @@ same-length c = search needs
 returns : tie.Need-returns
 unfolding differenceDeviation differences keysDeviation matrixOf rowDifference difference
 returns c =
-    let start = c .before .before .before .before .before .before .before .before .before .before in
+    let start = c .before .before .before .before .before .before .before .before .before .before .before in
     let tallied = c .before .before .before .before .before .before .tally-differences .ensures in
     let found = c .before .before .first-deviation .ensures in (
       found .0 ∙ ap asDeviation (deviation-tallied _ tallied),

@@ -10,8 +10,7 @@ use lib.ListN.{getD}
 use borrow.Author.Needs.{needs}
 use Rattle.counting.specs.Generator.{from}
 use Rattle.buffers.specs.Put.{Put}
-use Rattle.buffers.proofs.Puts.{put-length}
-use Rattle.opening.proofs.FieldLeads.{put-before}
+use Rattle.buffers.proofs.Puts.{put-length, put-before}
 use Rattle.layout.proofs.Rows.{values-none, values-next, values-room}
 use Rattle.opening.specs.LevelSums.{runSum}
 use Rattle.opening.proofs.field.put_sum.Statement.{statement}
