@@ -42,10 +42,6 @@ padded-at n xs k =
     ∙ zero-at (n - length xs) (k - length xs)
     ∙ sym (List·getD-eq-default xs 0 {n = k} (omega arith)))
 
-pub padded-long : (n : ℕ) (bytes : List ℕ) → length bytes ≤ length (padded n bytes)
-unfolding padded
-padded-long n bytes = omega (arith, length-append bytes (zeros (n - length bytes)))
-
 pub padded-front : (n k : ℕ) (xs : List ℕ) → length xs ≡ k → take k (padded n xs) ≡ xs
 unfolding padded
 padded-front n k xs e = take-at xs (zeros (n - length xs)) k e

@@ -1,4 +1,4 @@
--- `construction::settle::settle` meets its contract: each of the three buffers by its own function.
+-- `layout::settle::settle` meets its contract: each of the three buffers by its own function.
 use borrow.Author.Needs.{needs}
 use mathlib.Core.Path.{sym}
 use native.Mathlib.Omega.{arith}
