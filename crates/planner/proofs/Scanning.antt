@@ -4,12 +4,12 @@ use mathlib.Core.Path.{_≡_, sym, _∙_, ap}
 use mathlib.Core.List.{List, [], _∷_, _++_, foldl-append, flatten}
 use Prim.Native.Nat.{ℕ}
 use lib.ListN.{length}
-use Rattle.text.specs.Words.{reading}
-use Rattle.text.specs.Scanner.{Progress, advanced, finished, readingOf}
-use Rattle.text.specs.declared.words.Scan.{Scan}
-use Rattle.text.specs.declared.words.Scan.the-variants.{Between}
-use Rattle.text.specs.declared.words.Scanned.{Scanned}
-use Rattle.text.proofs.Scanning.{any-cut}
+use Rattle.words.specs.Words.{reading}
+use Rattle.words.specs.Scanner.{Progress, advanced, finished, readingOf}
+use Rattle.words.specs.declared.Scan.{Scan}
+use Rattle.words.specs.declared.Scan.the-variants.{Between}
+use Rattle.words.specs.declared.Scanned.{Scanned}
+use Rattle.words.proofs.Scanning.{any-cut}
 use Rattle.planner.specs.Scanned.{Underway, ScannedWhole}
 
 pub underway-start : {state : Scan} (list : List ℕ) → state ≡ Between 0 → Underway list state list

@@ -2,10 +2,10 @@
 use mathlib.Core.Path.{_≡_}
 use mathlib.Core.List.{List, foldl}
 use Prim.Native.Nat.{ℕ}
-use Rattle.text.specs.Scanner.{advanced, finished}
-use Rattle.text.specs.declared.words.Scan.{Scan}
-use Rattle.text.specs.declared.words.Scan.the-variants.{Between}
-use Rattle.text.specs.declared.words.Scanned.{Scanned}
+use Rattle.words.specs.Scanner.{advanced, finished}
+use Rattle.words.specs.declared.Scan.{Scan}
+use Rattle.words.specs.declared.Scan.the-variants.{Between}
+use Rattle.words.specs.declared.Scanned.{Scanned}
 
 -- The state of the scanner, and the list, after some pieces of a text from its start.
 pub record Underway (before : List ℕ) (state : Scan) (list : List ℕ) : Type 0 where

@@ -2,7 +2,7 @@
 // runs"). What is read and what is put into a line is proved in `text`, `construction` and `report`; here it is only read and written.
 ghost use Prim.Native.Nat.{_≤_};
 ghost use lib.ListN.{length};
-ghost use Rattle.text.specs.Scanner.{Ended};
+ghost use Rattle.words.specs.Scanner.{Ended};
 ghost use Rattle.planner.specs.Scanned.{ScannedWhole};
 ghost use Rattle.report.specs.Report.{lineCount, Printable};
 use libc::STDIN_FILENO;
@@ -12,8 +12,8 @@ use report::put_line;
 use report::put_refused;
 use sheets::answer::Answer;
 use sheets::answer::Refusal;
-use text::words::Scan;
-use text::words::Scanned;
+use words::Scan;
+use words::Scanned;
 
 fn main() {
     let mut list = [0u16; 32768];

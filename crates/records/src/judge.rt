@@ -1,7 +1,7 @@
 // One order and its stored answer.
 ghost use Prim.Native.Nat.{_≤_};
 ghost use lib.ListN.{length};
-ghost use Rattle.text.specs.Scanner.{Ended};
+ghost use Rattle.words.specs.Scanner.{Ended};
 use crate::bytes::fill;
 use crate::bytes::find;
 use crate::bytes::stands_at;
@@ -13,8 +13,8 @@ use report::put_refused;
 use sheets::answer::Answer;
 use sheets::answer::Refusal;
 use sheets::answer::numbers_of;
-use text::words::Scan;
-use text::words::Scanned;
+use words::Scan;
+use words::Scanned;
 
 // The lengths of the buffers that are lent.
 pub(crate) struct Lengths {

@@ -8,7 +8,7 @@ use native.Mathlib.Omega.{arith}
 use lib.ListN.{length, getD, take, drop}
 use lib.Seq.{length-take-le}
 use Rattle.buffers.specs.Put.{Put}
-use Rattle.text.specs.Lines.{line, refusedLine, upTo, printedLines}
+use Rattle.lines.specs.Lines.{line, refusedLine, upTo, printedLines}
 use Rattle.sheets.specs.Refusals.{numbered}
 use Rattle.sheets.specs.declared.answer.Refusal.{Refusal}
 use Rattle.sheets.specs.declared.answer.Answer.{Answer}

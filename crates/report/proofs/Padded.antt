@@ -7,8 +7,8 @@ use native.Mathlib.Nat.{suc-mul}
 use native.Mathlib.Omega.{arith}
 use lib.ListN.{length, take, drop, length-drop}
 use lib.Seq.{take-at}
-use Rattle.text.specs.Lines.{line, runLines, printed, printedLines}
-use Rattle.text.proofs.Printing.{lines-joined}
+use Rattle.lines.specs.Lines.{line, runLines, printed, printedLines}
+use Rattle.lines.proofs.Printing.{lines-joined}
 use Rattle.sheets.specs.declared.answer.Refusal.{Refusal}
 use Rattle.sheets.specs.declared.answer.Answer.the-variants.{Filled, Refused}
 use Rattle.report.specs.Report.{refusalLine, answerLines}

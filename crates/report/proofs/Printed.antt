@@ -18,8 +18,8 @@ use Rattle.sheets.specs.Ingredients.{asTable, listed, tableNamed}
 use Rattle.sheets.specs.Steps.{proceed, provided, opening, operation, fits, wrongMember, applied, sized, afterSums, operate, firstStep, laterStep, laterSteps, allSteps}
 use Rattle.sheets.specs.Outcome.{rangeRefusal, ingredientRefusal, ingredientsRefusal, unless, readOutcome, outcome}
 use Rattle.sheets.proofs.Starred.{Example, computed, examples, starred}
-use Rattle.text.specs.Words.{isGap, words, isDigit, decimal, isNumber, reading}
-use Rattle.text.specs.Lines.{digits, line, printed}
+use Rattle.words.specs.Words.{isGap, words, isDigit, decimal, isNumber, reading}
+use Rattle.lines.specs.Lines.{digits, line, printed}
 use Rattle.report.specs.Report.{outcomePrinted, output}
 
 abbrev pub input : List ℕ

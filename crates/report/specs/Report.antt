@@ -4,8 +4,8 @@ use Prim.Native.Nat.{ℕ, _+_, _*_, _≤_}
 use lib.ListN.{length, take}
 use Rattle.counting.specs.Generator.{from}
 use Rattle.counting.specs.Table.{columns}
-use Rattle.text.specs.Lines.{refusedLine, printed, printedLines}
-use Rattle.text.specs.Words.{Reading, numbers, refused, reading}
+use Rattle.lines.specs.Lines.{refusedLine, printed, printedLines}
+use Rattle.words.specs.Words.{Reading, numbers, refused, reading}
 use Rattle.sheets.specs.Refusals.{numbered}
 use Rattle.sheets.specs.Steps as steps
 use Rattle.sheets.specs.Outcome.{outcome}

@@ -5,14 +5,14 @@ ghost use mathlib.Core.List.{[]};
 ghost use Prim.Native.Nat.{_+_, _≤_, _<_};
 ghost use lib.ListN.{length, getD, take};
 ghost use Rattle.buffers.specs.Put.{Put};
-ghost use Rattle.text.specs.Lines.{printedLines};
+ghost use Rattle.lines.specs.Lines.{printedLines};
 ghost use Rattle.report.specs.Report.{refusalLine, answerLines, lineCount, Printable, Fitting};
+use lines::put_pair;
+use lines::put_refusal;
+use lines::put_row;
 use sheets::answer::Answer;
 use sheets::answer::Refusal;
 use sheets::answer::numbers_of;
-use text::lines::put_pair;
-use text::lines::put_refusal;
-use text::lines::put_row;
 
 // The one line of a refusal, at the front of a buffer.
 pub fn put_refused(buf: &mut [u8], why: Refusal) -> usize

@@ -3,8 +3,8 @@
 use mathlib.Core.Path.{_≡_}
 use lib.ListN.{length}
 use borrow.Author.Needs.{needs}
-use Rattle.text.specs.Scanner.{Sound}
-use Rattle.text.proofs.Bounds.{sound-start, sound-piece, sound-finish}
+use Rattle.words.specs.Scanner.{Sound}
+use Rattle.words.proofs.Bounds.{sound-start, sound-piece, sound-finish}
 use Rattle.planner.specs.Scanned.{Underway}
 use Rattle.planner.proofs.Scanning.{underway-start, underway-piece, underway-end}
 use Rattle.planner.proofs.scan_input.Statement.{statement}

@@ -2,7 +2,7 @@
 use mathlib.Core.Path.{sym}
 use native.Mathlib.Omega.{arith}
 use lib.Seq.{length-take-le}
-use Rattle.text.proofs.Bounds.{ended-room}
+use Rattle.words.proofs.Bounds.{ended-room}
 use borrow.Author.Needs.{needs}
 use Rattle.records.proofs.judge.judge.Statement.{statement}
 use Rattle.records.proofs.judge.judge.Tie as tie

@@ -1,5 +1,5 @@
 -- `scan` meets its contract: no more numbers are read than the list has places.
-use Rattle.text.proofs.Bounds.{sound-start, sound-piece, sound-finish}
+use Rattle.words.proofs.Bounds.{sound-start, sound-piece, sound-finish}
 use borrow.Author.Needs.{needs}
 use Rattle.records.proofs.judge.scan.Statement.{statement}
 use Rattle.records.proofs.judge.scan.Tie as tie

@@ -1,0 +1,89 @@
+// The lines that are printed (document 01, "Printed runs"). Each function puts bytes into a buffer from a place on, leaves the rest of it, and
+// returns the place after them.
+ghost use Prim.Native.Nat.{_+_, _*_, _≤_, _<_};
+ghost use mathlib.Core.List.{[], _∷_, _++_};
+ghost use lib.ListN.{length};
+ghost use Rattle.buffers.specs.Put.{Put};
+ghost use Rattle.lines.specs.Lines.{digits, spaced, line, refusedLine};
+use buffers::put_byte;
+use buffers::put_bytes;
+
+// A number in decimal: the digits before the last are those of a tenth of it.
+pub fn put_number(buf: &mut [u8], at: usize, value: usize) -> usize
+    requires { ⌜ at + length (digits value) ≤ length (now buf) ⌝ }
+    ensures { λ r. ⌜ Put (now (buf .entry)) at (digits value) (now (buf .exit)) r ⌝ }
+{
+    if value < 10 {
+        return put_byte(buf, at, 48 + value as u8);
+    }
+    let place = put_number(buf, at, value / 10);
+    put_byte(buf, place, 48 + (value % 10) as u8)
+}
+
+// A space and a number.
+fn put_spaced(buf: &mut [u8], at: usize, value: usize) -> usize
+    requires { ⌜ at + length (digits value) < length (now buf) ⌝ }
+    ensures { λ r. ⌜ Put (now (buf .entry)) at (32 ∷ digits value) (now (buf .exit)) r ⌝ }
+{
+    let place = put_byte(buf, at, b' ');
+    put_number(buf, place, value)
+}
+
+// The line of two numbers, as "N m".
+pub fn put_pair(buf: &mut [u8], at: usize, first: usize, second: usize) -> usize
+    requires { ⌜ at + 42 ≤ length (now buf) ⌝ }
+    ensures { λ r. ⌜ Put (now (buf .entry)) at (line (first ∷ second ∷ [])) (now (buf .exit)) r ⌝ }
+{
+    let after_first = put_number(buf, at, first);
+    let after_second = put_spaced(buf, after_first, second);
+    put_byte(buf, after_second, b'\n')
+}
+
+// The end of a line: each of some byte-sized numbers with a space before it, and the line feed.
+fn end_with_cells(buf: &mut [u8], at: usize, cells: &[u8]) -> usize
+    requires { ⌜ at + 4 * length (now cells) < length (now buf) ⌝ }
+    ensures { λ r. ⌜ Put (now (buf .entry)) at (spaced (now (cells .entry)) ++ (10 ∷ [])) (now (buf .exit)) r ⌝ }
+{
+    let mut place = at;
+    let mut i = 0;
+    while i < cells.len() {
+        place = put_spaced(buf, place, cells[i] as usize);
+        i += 1;
+    }
+    put_byte(buf, place, b'\n')
+}
+
+// The same with numbers of any size.
+fn end_with_numbers(buf: &mut [u8], at: usize, numbers: &[usize]) -> usize
+    requires { ⌜ at + 21 * length (now numbers) < length (now buf) ⌝ }
+    ensures { λ r. ⌜ Put (now (buf .entry)) at (spaced (now (numbers .entry)) ++ (10 ∷ [])) (now (buf .exit)) r ⌝ }
+{
+    let mut place = at;
+    let mut i = 0;
+    while i < numbers.len() {
+        place = put_spaced(buf, place, numbers[i]);
+        i += 1;
+    }
+    put_byte(buf, place, b'\n')
+}
+
+// The line of some byte-sized numbers, as the level counts or a run.
+pub fn put_row(buf: &mut [u8], at: usize, cells: &[u8]) -> usize
+    requires { ⌜ at + 4 * length (now cells) < length (now buf) ⌝ }
+    ensures { λ r. ⌜ Put (now (buf .entry)) at (line (now (cells .entry))) (now (buf .exit)) r ⌝ }
+{
+    if cells.len() == 0 {
+        return put_byte(buf, at, b'\n');
+    }
+    let after_first = put_number(buf, at, cells[0] as usize);
+    end_with_cells(buf, after_first, &cells[1..])
+}
+
+// The line of a refusal: its number and six details.
+pub fn put_refusal(buf: &mut [u8], at: usize, numbers: [usize; 7]) -> usize
+    requires { ⌜ at + 155 ≤ length (now buf) ⌝ }
+    ensures { λ r. ⌜ Put (now (buf .entry)) at (refusedLine numbers) (now (buf .exit)) r ⌝ }
+{
+    let after_word = put_bytes(buf, at, b"refused");
+    end_with_numbers(buf, after_word, &numbers)
+}

@@ -1,0 +1,6 @@
+pub mod Cuts
+pub mod Steps
+pub mod Scanning
+pub mod Bounds
+pub mod RoundTrip
+pub mod Examples

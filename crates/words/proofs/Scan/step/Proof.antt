@@ -1,0 +1,65 @@
+-- `words::Scan::step` meets its contract: each arm of the match is one of the cases of `stepped`, by the byte that `is_gap` has tested.
+use mathlib.Core.Path.{_∙_, ap, sym}
+use Rattle.words.proofs.Steps.{skips, begins, ends, grows, stays}
+use borrow.Author.Needs.{needs}
+use Rattle.words.proofs.Scan.step.Statement.{statement}
+use Rattle.words.proofs.Scan.step.Tie as tie
+
+is-gap-requires : tie.Need-is-gap-requires
+is-gap-requires c κs = search needs
+
+enum-known-self : tie.Need-enum-known-self
+enum-known-self c = search needs
+
+grow-requires : tie.Need-grow-requires
+grow-requires c κs = search needs
+
+enum-known-self-2 : tie.Need-enum-known-self-2
+enum-known-self-2 c = search needs
+
+store-requires : tie.Need-store-requires
+store-requires c κs = search needs
+
+resume-requires : tie.Need-resume-requires
+resume-requires c κs = search needs
+
+grow-requires-2 : tie.Need-grow-requires-2
+grow-requires-2 c κs = search needs
+
+enum-known-self-3 : tie.Need-enum-known-self-3
+enum-known-self-3 c = search needs
+
+returns : tie.Need-returns
+returns c = skips _ _ (c .before .before .self .given .1) (sym (c .before .before .before .before .is-gap .ensures) ∙ c .if1 .taken)
+
+returns-2 : tie.Need-returns-2
+returns-2 c = rw (c .grow .ensures) (begins _ _ (c .before .before .before .self .given .1) (sym (c .before .before .before .before .before .is-gap .ensures) ∙ c .before .if1 .left))
+
+returns-3 : tie.Need-returns-3
+returns-3 c =
+    rw (c .resume .ensures, ap (λ p. p .0) (c .before .store .ensures), ap (λ p. p .1) (c .before .store .ensures))
+    (ends _ _ (c .before .before .before .before .before .self2 .given .1) (sym (c .before .before .before .before .before .before .before .is-gap .ensures) ∙ c .before .before .before .if2 .taken))
+
+returns-4 : tie.Need-returns-4
+returns-4 c = rw (c .grow2 .ensures) (grows _ _ (c .before .before .before .self2 .given .1) (sym (c .before .before .before .before .before .is-gap .ensures) ∙ c .before .if2 .left))
+
+returns-5 : tie.Need-returns-5
+returns-5 c = stays _ _ (c .before .self3 .given .1)
+
+pub step-spec : {M : Type 1} → statement M
+step-spec =
+    tie.close
+    (tie.spec
+    is-gap-requires
+    enum-known-self
+    grow-requires
+    enum-known-self-2
+    store-requires
+    resume-requires
+    grow-requires-2
+    enum-known-self-3
+    returns
+    returns-2
+    returns-3
+    returns-4
+    returns-5)

@@ -1,0 +1,130 @@
+// The numbers of an order, from the decimal words of a text (document 01, "Printed runs"). No function here makes a system call: a program reads,
+// a piece at a time.
+ghost use mathlib.Core.Path.{_≡_};
+ghost use Rattle.words.specs.Words.{isGap};
+ghost use Rattle.words.specs.Scanner.{grown, stored, resumed, stepped, advanced, finished};
+
+// How far a text has been read.
+pub enum Scan {
+    // Between words, after so many numbers.
+    Between { count: usize },
+    // In the word after so many numbers. Its bytes so far are digits, and write value.
+    Inside { count: usize, value: u16 },
+    // The word at this place, from 0, is refused, and with it the text.
+    Failed { place: usize },
+}
+
+// What a whole text comes to.
+pub enum Scanned {
+    // So many numbers, at the front of the list.
+    Numbers { count: usize },
+    // The place of the first word that is refused.
+    Refused { place: usize },
+}
+
+// Spaces, tabs and line feeds part words.
+fn is_gap(byte: u8) -> bool
+    ensures { λ r. ⌜ r ≡ isGap byte ⌝ }
+{
+    byte == b' ' || byte == b'\t' || byte == b'\n'
+}
+
+// One more byte of the word after count numbers, whose digits so far write value.
+fn grow(count: usize, value: u16, byte: u8) -> Scan
+    ensures { λ r. ⌜ r ≡ grown count value byte ⌝ }
+{
+    if byte < 48 {
+        return Scan::Failed { place: count };
+    }
+    if 57 < byte {
+        return Scan::Failed { place: count };
+    }
+    let next = value as u32 * 10 + (byte - 48) as u32;
+    if next <= 65535 {
+        Scan::Inside {
+            count,
+            value: next as u16,
+        }
+    } else {
+        Scan::Failed { place: count }
+    }
+}
+
+// The end of the word after count numbers, which writes value.
+fn store(count: usize, value: u16, list: &mut [u16; 32768]) -> Scanned
+    ensures { λ r. ⌜ (r, now (list .exit)) ≡ stored count value (now (list .entry)) ⌝ }
+{
+    if count < 32768 {
+        list[count] = value;
+        Scanned::Numbers { count: count + 1 }
+    } else {
+        Scanned::Refused { place: count }
+    }
+}
+
+// The state after a word that has ended.
+fn resume(word: Scanned) -> Scan
+    ensures { λ r. ⌜ r ≡ resumed word ⌝ }
+{
+    match word {
+        Scanned::Numbers { count } => Scan::Between { count },
+        Scanned::Refused { place } => Scan::Failed { place },
+    }
+}
+
+impl Scan {
+    // Before a text's first byte.
+    pub fn start() -> Self
+        ensures { λ r. ⌜ r ≡ Scan.Between 0 ⌝ }
+    {
+        Scan::Between { count: 0 }
+    }
+
+    // After one byte more. The number of a word that it ends goes into the list.
+    pub fn step(self, byte: u8, list: &mut [u16; 32768]) -> Self
+        ensures { λ r. ⌜ (r, now (list .exit)) ≡ stepped (self, now (list .entry)) byte ⌝ }
+    {
+        let gap = is_gap(byte);
+        match self {
+            Scan::Between { count } => {
+                if gap {
+                    Scan::Between { count }
+                } else {
+                    grow(count, 0, byte)
+                }
+            }
+            Scan::Inside { count, value } => {
+                if gap {
+                    resume(store(count, value, list))
+                } else {
+                    grow(count, value, byte)
+                }
+            }
+            Scan::Failed { place } => Scan::Failed { place },
+        }
+    }
+
+    // After a piece of the text more, of any length.
+    pub fn piece(self, bytes: &[u8], list: &mut [u16; 32768]) -> Self
+        ensures { λ r. ⌜ (r, now (list .exit)) ≡ advanced (self, now (list .entry)) (now (bytes .entry)) ⌝ }
+    {
+        let mut state = self;
+        let mut i = 0;
+        while i < bytes.len() {
+            state = state.step(bytes[i], list);
+            i += 1;
+        }
+        state
+    }
+
+    // At the end of the text, which ends a word begun.
+    pub fn finish(self, list: &mut [u16; 32768]) -> Scanned
+        ensures { λ r. ⌜ (r, now (list .exit)) ≡ finished (self, now (list .entry)) ⌝ }
+    {
+        match self {
+            Scan::Between { count } => Scanned::Numbers { count },
+            Scan::Inside { count, value } => store(count, value, list),
+            Scan::Failed { place } => Scanned::Refused { place },
+        }
+    }
+}
