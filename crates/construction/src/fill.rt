@@ -5,12 +5,12 @@ ghost use Rattle.layout.specs.Step.{Readable};
 ghost use Rattle.construction.specs.Carry.{passedIn};
 ghost use Rattle.construction.specs.Promise.{Settled};
 use crate::carry::carry_or_clear;
-use ingredients::passing::Passing;
-use ingredients::passing::first_failing;
 use order::Entries;
 use order::Reading;
 use order::first_out_of_range;
 use order::read;
+use passing::Passing;
+use passing::first_failing;
 use sheets::answer::Answer;
 use sheets::answer::Refusal;
 

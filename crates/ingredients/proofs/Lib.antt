@@ -2,6 +2,3 @@ pub mod Parts
 pub mod OwnTables
 pub mod Standing
 pub mod NamedLaws
-pub mod Copies
-pub mod Checking
-pub mod Questions

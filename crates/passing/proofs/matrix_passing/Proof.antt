@@ -1,10 +1,10 @@
--- `ingredients::passing::matrix_passing` meets its contract: a fault becomes the refusal that 01 has for it.
+-- `passing::matrix_passing` meets its contract: a fault becomes the refusal that 01 has for it.
 -- Assumes nothing.
 use Rattle.sheets.specs.Outcome.{matrixRefusal}
-use Rattle.ingredients.specs.Passing.{passingOf}
+use Rattle.passing.specs.Passing.{passingOf}
 use borrow.Author.Needs.{needs}
-use Rattle.ingredients.proofs.passing.matrix_passing.Statement.{statement}
-use Rattle.ingredients.proofs.passing.matrix_passing.Tie as tie
+use Rattle.passing.proofs.matrix_passing.Statement.{statement}
+use Rattle.passing.proofs.matrix_passing.Tie as tie
 
 enum-told : tie.Need-enum-told
 enum-told c = search needs

@@ -1,11 +1,11 @@
--- `ingredients::passing::generator_finding` meets its contract: what is lent to the check are the widths and the entries of the list.
+-- `passing::generator_finding` meets its contract: what is lent to the check are the widths and the entries of the list.
 -- Assumes nothing.
 use Rattle.buffers.proofs.Puts.{put-part, put-front}
-use Rattle.ingredients.proofs.Copies.{put-undone}
-use Rattle.ingredients.proofs.Checking.{widths-copyable, generator-copyable, generator-checkable}
+use Rattle.passing.proofs.Copies.{put-undone}
+use Rattle.passing.proofs.Checking.{widths-copyable, generator-copyable, generator-checkable}
 use borrow.Author.Needs.{needs}
-use Rattle.ingredients.proofs.passing.generator_finding.Statement.{statement}
-use Rattle.ingredients.proofs.passing.generator_finding.Tie as tie
+use Rattle.passing.proofs.generator_finding.Statement.{statement}
+use Rattle.passing.proofs.generator_finding.Tie as tie
 
 mul-size : tie.Need-mul-size
 mul-size c = search needs

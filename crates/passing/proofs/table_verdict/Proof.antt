@@ -1,12 +1,12 @@
--- `ingredients::passing::table_verdict` meets its contract: what is lent to the check are the level counts and the entries of the list.
+-- `passing::table_verdict` meets its contract: what is lent to the check are the level counts and the entries of the list.
 -- Assumes nothing.
 use Rattle.buffers.proofs.Puts.{put-part, put-front}
 use Rattle.ingredients.specs.Named.{tableIn}
-use Rattle.ingredients.proofs.Copies.{put-undone}
-use Rattle.ingredients.proofs.Checking.{levels-copyable, cells-copyable, table-checkable}
+use Rattle.passing.proofs.Copies.{put-undone}
+use Rattle.passing.proofs.Checking.{levels-copyable, cells-copyable, table-checkable}
 use borrow.Author.Needs.{needs}
-use Rattle.ingredients.proofs.passing.table_verdict.Statement.{statement}
-use Rattle.ingredients.proofs.passing.table_verdict.Tie as tie
+use Rattle.passing.proofs.table_verdict.Statement.{statement}
+use Rattle.passing.proofs.table_verdict.Tie as tie
 
 mul-size : tie.Need-mul-size
 mul-size c = search needs

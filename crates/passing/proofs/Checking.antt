@@ -10,12 +10,12 @@ use Rattle.counting.specs.Checkable.{CheckableTable, CheckableMatrix, Checkable
 use Rattle.counting.specs.Table.{tableOf}
 use Rattle.order.proofs.Powers.{width-small}
 use Rattle.sheets.proofs.Ingredients.{field-size}
 use Rattle.ingredients.specs.Named.{tableIn, Legible}
 use Rattle.ingredients.specs.Standing.{TableStands, MatrixStands, GeneratorStands}
-use Rattle.ingredients.specs.Passing.{Copyable}
+use Rattle.passing.specs.Passing.{Copyable}
 use Rattle.ingredients.proofs.Parts.{part-length, part-at, part-bytes}
 use Rattle.ingredients.proofs.Standing.{matrix-bytes, matrix-in-range, generator-bytes, generator-row, elements-in-range}
 use Rattle.ingredients.proofs.NamedLaws.{own-legible, own-limits}
 
 module _ {list : List ℕ} {rows columns levelsAt entriesAt : ℕ} (s : TableStands list rows columns levelsAt entriesAt) where
   pub levels-copyable : {numbers : List ℕ} → 128 ≤ length numbers → Copyable list levelsAt columns numbers

@@ -25,11 +25,11 @@ use Rattle.order.proofs.InRange.{range-iff}
 use Rattle.order.proofs.Stands.{ingredient-described}
 use Rattle.sheets.specs.Outcome.{tableRefusal, matrixRefusal, generatorRefusal, ingredientRefusal, ingredientsRefusal}
 use Rattle.sheets.specs.declared.answer.Refusal.{Refusal}
 use Rattle.ingredients.specs.Named.{tableIn, matrixIn, generatorIn}
-use Rattle.ingredients.specs.Passing.{passingOf, refusalAt, passingIn}
+use Rattle.passing.specs.Passing.{passingOf, refusalAt, passingIn}
 use Rattle.ingredients.specs.declared.named.NamedTable.the-variants.{Own}
-use Rattle.ingredients.specs.declared.passing.Passing.{Passing}
-use Rattle.ingredients.specs.declared.passing.Passing.the-variants.{AllPass, Refused}
+use Rattle.passing.specs.declared.Passing.{Passing}
+use Rattle.passing.specs.declared.Passing.the-variants.{AllPass, Refused}
 
 -- ---- a list whose entries are in range reads as an order
 

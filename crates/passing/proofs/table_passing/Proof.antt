@@ -1,10 +1,10 @@
--- `ingredients::passing::table_passing` meets its contract: each fault becomes the refusal that 01 has for it.
+-- `passing::table_passing` meets its contract: each fault becomes the refusal that 01 has for it.
 -- Assumes nothing.
 use Rattle.sheets.specs.Outcome.{tableRefusal}
-use Rattle.ingredients.specs.Passing.{passingOf}
+use Rattle.passing.specs.Passing.{passingOf}
 use borrow.Author.Needs.{needs}
-use Rattle.ingredients.proofs.passing.table_passing.Statement.{statement}
-use Rattle.ingredients.proofs.passing.table_passing.Tie as tie
+use Rattle.passing.proofs.table_passing.Statement.{statement}
+use Rattle.passing.proofs.table_passing.Tie as tie
 
 enum-told : tie.Need-enum-told
 enum-told c = search needs

@@ -1,14 +1,14 @@
--- `ingredients::passing::copy_part` meets its contract: the part that is lent has as many numbers as are asked for.
+-- `passing::copy_part` meets its contract: the part that is lent has as many numbers as are asked for.
 -- Assumes nothing.
 use mathlib.Core.Path.{_≡_, _∙_}
 use Prim.Native.Nat.{_+_, _-_}
 use native.Mathlib.Nat.{zero-add}
 use native.Mathlib.Omega.{arith}
 use denote.Ref.{now}
 use Rattle.ingredients.proofs.Parts.{part-length}
 use borrow.Author.Needs.{needs}
-use Rattle.ingredients.proofs.passing.copy_part.Statement.{statement}
-use Rattle.ingredients.proofs.passing.copy_part.Tie as tie
+use Rattle.passing.proofs.copy_part.Statement.{statement}
+use Rattle.passing.proofs.copy_part.Tie as tie
 
 add-end : tie.Need-add-end
 add-end c = search needs

@@ -1,12 +1,12 @@
--- `ingredients::passing::ingredient_passing` meets its contract: each kind has its check, and what the look-up found stands in the list.
+-- `passing::ingredient_passing` meets its contract: each kind has its check, and what the look-up found stands in the list.
 -- Assumes nothing.
 use mathlib.Core.Path.{refl, sym, _∙_}
 use denote.Ref.{now}
 use Rattle.ingredients.proofs.Standing.{table-stands, matrix-stands, generator-stands}
-use Rattle.ingredients.proofs.Questions.{readable, table-answer, matrix-answer, generator-answer, missing-answer}
+use Rattle.passing.proofs.Questions.{readable, table-answer, matrix-answer, generator-answer, missing-answer}
 use borrow.Author.Needs.{needs}
-use Rattle.ingredients.proofs.passing.ingredient_passing.Statement.{statement}
-use Rattle.ingredients.proofs.passing.ingredient_passing.Tie as tie
+use Rattle.passing.proofs.ingredient_passing.Statement.{statement}
+use Rattle.passing.proofs.ingredient_passing.Tie as tie
 
 ingredient-at-requires : tie.Need-ingredient-at-requires
 ingredient-at-requires c κs = search needs

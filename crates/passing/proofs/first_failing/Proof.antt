@@ -1,4 +1,4 @@
--- `ingredients::passing::first_failing` meets its contract. The invariant: what the ingredients after the first i come to is what all come to, and the
+-- `passing::first_failing` meets its contract. The invariant: what the ingredients after the first i come to is what all come to, and the
 -- buffers are as they were.
 -- Assumes nothing.
 use mathlib.Core.Path.{_≡_, refl, sym, _∙_, ap}
@@ -8,11 +8,11 @@ use denote.Ref.{now}
 use Rattle.finite.specs.First.{_orElse_}
 use Rattle.order.specs.Grammar.{readOrder}
 use Rattle.order.specs.Places.{ingredientCount}
-use Rattle.ingredients.specs.Passing.{passingOf, refusalAt, passingIn}
-use Rattle.ingredients.proofs.Questions.{readable, restOf, rest-all, rest-next, rest-none, failing-first, passing-first}
+use Rattle.passing.specs.Passing.{passingOf, refusalAt, passingIn}
+use Rattle.passing.proofs.Questions.{readable, restOf, rest-all, rest-next, rest-none, failing-first, passing-first}
 use borrow.Author.Needs.{needs}
-use Rattle.ingredients.proofs.passing.first_failing.Statement.{statement}
-use Rattle.ingredients.proofs.passing.first_failing.Tie as tie
+use Rattle.passing.proofs.first_failing.Statement.{statement}
+use Rattle.passing.proofs.first_failing.Tie as tie
 
 abbrev Inv-loop : tie.InvT-loop
 Inv-loop list cells₀ numbers₀ count i₀ cells numbers i =

@@ -1,11 +1,11 @@
--- `ingredients::passing::matrix_finding` meets its contract: what is lent to the check are the entries of the list.
+-- `passing::matrix_finding` meets its contract: what is lent to the check are the entries of the list.
 -- Assumes nothing.
 use Rattle.buffers.proofs.Puts.{put-part, put-front}
-use Rattle.ingredients.proofs.Copies.{put-undone}
-use Rattle.ingredients.proofs.Checking.{matrix-copyable, matrix-checkable}
+use Rattle.passing.proofs.Copies.{put-undone}
+use Rattle.passing.proofs.Checking.{matrix-copyable, matrix-checkable}
 use borrow.Author.Needs.{needs}
-use Rattle.ingredients.proofs.passing.matrix_finding.Statement.{statement}
-use Rattle.ingredients.proofs.passing.matrix_finding.Tie as tie
+use Rattle.passing.proofs.matrix_finding.Statement.{statement}
+use Rattle.passing.proofs.matrix_finding.Tie as tie
 
 mul-size : tie.Need-mul-size
 mul-size c = search needs

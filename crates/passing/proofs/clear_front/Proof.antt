@@ -1,12 +1,12 @@
--- `ingredients::passing::clear_front` meets its contract: the part that is lent comes back as that many zeros.
+-- `passing::clear_front` meets its contract: the part that is lent comes back as that many zeros.
 -- Assumes nothing.
 use mathlib.Core.Path.{sym, _∙_, ap}
 use lib.ListN.{replicate}
 use lib.Seq.{length-take-le}
-use Rattle.ingredients.proofs.Copies.{put-zeros}
+use Rattle.passing.proofs.Copies.{put-zeros}
 use borrow.Author.Needs.{needs}
-use Rattle.ingredients.proofs.passing.clear_front.Statement.{statement}
-use Rattle.ingredients.proofs.passing.clear_front.Tie as tie
+use Rattle.passing.proofs.clear_front.Statement.{statement}
+use Rattle.passing.proofs.clear_front.Tie as tie
 
 slice-relend-prefix-clear : tie.Need-slice-relend-prefix-clear
 slice-relend-prefix-clear c = search needs
