@@ -6,25 +6,26 @@ use mathlib.Core.Bool.{true, false, cond, _&&_, and-false}
 use mathlib.Core.Option.{none as nothing, some}
 use mathlib.Core.List.{List, [], _∷_, _++_, map}
 use Prim.Native.Nat.{ℕ, zero, suc, _+_, _-_, _*_, _/_, _%_, _^_, _≤_, _<_}
-use native.Mathlib.Nat.{eq-zero-or-pos, zero-add, suc-add, add-suc, add-comm, add-sub-cancel-left, suc-inj, suc-ne-zero, le-refl, le-trans, add-sub-of-le, pow-zero, pow-suc, div-one, sub-self, div-div-eq-div-mul}
+use native.Mathlib.Nat.{eq-zero-or-pos, add-suc, add-sub-cancel-left, suc-inj, suc-ne-zero, le-refl, le-trans, add-sub-of-le, pow-zero, pow-suc, div-one, sub-self, div-div-eq-div-mul}
 use native.Mathlib.Omega.{arith}
 use lib.Dec.{T, ltb}
 use borrow.Author.Tests.{eq-eqb, ne-eqb, lt-ltb}
 use lib.ListN.{length, getD, length-map, length-append}
 use lib.Pow.{pow-add}
+use Rattle.finite.specs.Digits.{digits}
+use Rattle.finite.specs.Lists.{from}
 use Rattle.finite.proofs.Firsts.{first-none, first-at}
 use Rattle.finite.proofs.Tests.{every-true, every-false}
+use Rattle.finite.proofs.Fits.{run-end}
+use Rattle.finite.proofs.Lists.{Below, none, more, length-from}
+use Rattle.finite.proofs.Digits.{digits-length, digits-below, digits-append}
 use Rattle.galois.specs.Arithmetic.{fieldSize, fieldSum, fieldProduct}
 use Rattle.galois.proofs.Fields.{field}
-use Rattle.counting.specs.Digits.{digits}
-use Rattle.counting.specs.Generator.{Generator, from, combination}
+use Rattle.counting.specs.Generator.{Generator, combination}
 use Rattle.counting.specs.Combining.{combinationOnto, elements, combined, ElementsAt, BlocksIn, gridOf, blockColumns, rowCombination}
 use Rattle.counting.specs.GeneratorVerdict.{combinesToZero, dependence}
 use Rattle.counting.specs.declared.generator.Block.{Block}
 use Rattle.counting.specs.declared.generator.Combining.{Combining}
-use Rattle.counting.proofs.Fits.{run-end}
-use Rattle.counting.proofs.Lists.{Below, none, more, length-from}
-use Rattle.counting.proofs.Digits.{digits-length, digits-below}
 
 -- ---- elements of the field
 pub size-positive : (s : ℕ) → T (fieldSize s) → 0 < s
@@ -57,12 +58,6 @@ combined-more s entries at end so-far now p h e =
     rw (e, n, m, pow-suc, ← div-div-eq-div-mul)
 
 -- ---- two blocks, the later one first
-pub digits-append : (s m n v : ℕ) → digits s (m + n) v ≡ digits s m (v / s ^ n) ++ digits s n v
-unfolding digits
-digits-append s zero n v = rw zero-add
-digits-append s (suc m) n v =
-    rw (suc-add, digits-append s m n v, div-div-eq-div-mul, ← pow-add s n m, add-comm n m)
-
 onto-zero : (plus times : ℕ → ℕ → ℕ) (ks xs : List ℕ) → combinationOnto plus times ks xs 0 ≡ combination plus times ks xs
 unfolding combinationOnto combination
 onto-zero plus times [] xs = refl

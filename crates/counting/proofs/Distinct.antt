@@ -12,17 +12,18 @@ use lib.Arith.{lt-one}
 use lib.Dec.{lit<}
 use lib.ListN.{length, getD, take, drop, length-map, length-append, take-append-drop, length-drop}
 use lib.Seq.{length-take-le}
+use Rattle.finite.specs.Digits.{digits, numeral, horner}
+use Rattle.finite.specs.Lists.{from}
+use Rattle.finite.proofs.Lists.{Below, none, more, all-below, each-below, below-append, below-map, all-zero, below-replicate, length-from}
+use Rattle.finite.proofs.Digits.{digits-zero, digits-numeral, numeral-below}
 use Rattle.galois.specs.Laws.{Field}
 use Rattle.galois.specs.Arithmetic.{fieldSum, fieldProduct}
 use Rattle.galois.proofs.Fields.{field}
 use Rattle.counting.specs.Checkable.{CheckableGenerator}
-use Rattle.counting.specs.Digits.{digits, numeral, horner}
-use Rattle.counting.specs.Generator.{Generator, generatorOf, width, from, ElementsInRange, factors, factorColumns, columnsOf, Increasing, combination, IndependentColumns, Independent}
+use Rattle.counting.specs.Generator.{Generator, generatorOf, width, ElementsInRange, factors, factorColumns, columnsOf, Increasing, combination, IndependentColumns, Independent}
 use Rattle.counting.specs.GeneratorVerdict.{generatorVerdict}
 use Rattle.counting.specs.declared.verdict.GeneratorFinding.the-variants.{Passes}
 use Rattle.counting.specs.Combining.{blockColumns, factorBlock, rowCombination, combinationCode}
-use Rattle.counting.proofs.Lists.{Below, none, more, all-below, each-below, below-append, below-map, all-zero, below-replicate, length-from}
-use Rattle.counting.proofs.Digits.{digits-zero, digits-numeral, numeral-below}
 use Rattle.counting.proofs.FieldAlgebra.{zero-below, plus-zero, cancel-right, combination-below, zero-coefficients, combination-append, combination-opposite}
 use Rattle.counting.proofs.Factors.{factor-below}
 use Rattle.counting.proofs.GeneratorVerdicts.{no-columns, generator-passes}

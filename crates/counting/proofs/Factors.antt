@@ -9,15 +9,16 @@ use native.Mathlib.Omega.{arith}
 use lib.Dec.{lit≤}
 use lib.ListN.{length, getD}
 use Rattle.finite.specs.Sum.{sum}
+use Rattle.finite.specs.Lists.{from}
 use Rattle.finite.proofs.Sums.{sum-le}
+use Rattle.finite.proofs.Lists.{Below, below-from}
 use Rattle.galois.specs.Arithmetic.{fieldSum, fieldProduct}
 use Rattle.counting.specs.Checkable.{CheckableGenerator}
-use Rattle.counting.specs.Generator.{width, generatorOf, ElementsInRange, from, factorColumns, columnsOf}
+use Rattle.counting.specs.Generator.{width, generatorOf, ElementsInRange, factorColumns, columnsOf}
 use Rattle.counting.specs.GeneratorVerdict.{combinesToZero, dependence, pairDependence, onlyDependence}
 use Rattle.counting.specs.Combining.{gridOf, blockColumns, factorBlock, noBlock, BlocksIn, asDependence}
 use Rattle.counting.specs.declared.generator.Block.{Block}
 use Rattle.counting.specs.declared.generator.Dependence.the-variants.{Nothing, Least}
-use Rattle.counting.proofs.Lists.{Below, below-from}
 
 -- ---- what the enum says of the search
 least-not-nothing : (v : ℕ) → Least v ≡ Nothing → ⊥

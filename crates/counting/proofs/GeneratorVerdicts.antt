@@ -15,17 +15,18 @@ use lib.Arith.{lt-one}
 use lib.Dec.{T, ltb, eqb→eq, lt→ltb, ltb→lt, lit<}
 use lib.ListN.{length}
 use Rattle.finite.specs.First.{firstPair}
+use Rattle.finite.specs.Digits.{digits, numeral}
+use Rattle.finite.specs.Lists.{AllBelow}
 use Rattle.finite.proofs.Tests.{T-and, every-all, all-every}
 use Rattle.finite.proofs.Firsts.{first-none, none-below, found-least, pair-none, none-pair, found-pair}
+use Rattle.finite.proofs.Lists.{Below, all-below, each-below, all-zero, below-replicate}
+use Rattle.finite.proofs.Digits.{digits-length, digits-zero, digits-below, numeral-below, digits-numeral, digits-injective}
 use Rattle.galois.specs.Arithmetic.{fieldSum, fieldProduct}
-use Rattle.counting.specs.Digits.{digits, numeral}
-use Rattle.counting.specs.Generator.{Generator, factors, columnsOf, AllBelow, Increasing, IndependentColumns, Independent}
+use Rattle.counting.specs.Generator.{Generator, factors, columnsOf, Increasing, IndependentColumns, Independent}
 use Rattle.counting.specs.GeneratorVerdict.{combinesToZero, dependence, pairDependence, onlyDependence, generatorFault, generatorFinding, generatorVerdict}
 use Rattle.counting.specs.Failures.{Combines, LeastDependence, FirstDependence, only, two}
 use Rattle.counting.specs.declared.verdict.DependenceFault.{DependenceFault}
 use Rattle.counting.specs.declared.verdict.GeneratorFinding.the-variants.{Passes, Fails}
-use Rattle.counting.proofs.Lists.{Below, all-below, each-below, all-zero, below-replicate}
-use Rattle.counting.proofs.Digits.{digits-length, digits-zero, digits-below, numeral-below, digits-numeral, digits-injective}
 
 cond-none : {A : Type 0} (b : Bool) (a : A) → cond b (some a) none ≡ none → T b → ⊥
 cond-none true a e t = Option·some-ne-none a e

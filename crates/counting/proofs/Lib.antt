@@ -1,9 +1,5 @@
-pub mod Lists
-pub mod Digits
-pub mod Fits
 pub mod Deviations
 pub mod PairOrder
-pub mod Tabulated
 pub mod Tallies
 pub mod TableKeys
 pub mod TableVerdicts

@@ -5,9 +5,10 @@ use Prim.Native.Nat.{ℕ, _+_, _-_, _*_, _/_, _^_, _≤_, _<_}
 use lib.Dec.{T}
 use lib.ListN.{length, getD}
 use Rattle.finite.specs.Sum.{sum}
+use Rattle.finite.specs.Digits.{digits, horner}
+use Rattle.finite.specs.Lists.{from}
 use Rattle.galois.specs.Arithmetic.{fieldSize, fieldSum, fieldProduct}
-use Rattle.counting.specs.Digits.{digits, horner}
-use Rattle.counting.specs.Generator.{Generator, from, combination}
+use Rattle.counting.specs.Generator.{Generator, combination}
 use Rattle.counting.specs.declared.generator.Block.{Block}
 use Rattle.counting.specs.declared.generator.Combining.{Combining}
 use Rattle.counting.specs.declared.generator.Dependence.{Dependence}

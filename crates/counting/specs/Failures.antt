@@ -4,9 +4,9 @@ use mathlib.Core.Path.{_≡_}
 use mathlib.Core.List.{List, [], _∷_, map}
 use Prim.Native.Nat.{ℕ, _+_, _*_, _^_, _<_}
 use lib.ListN.{length}
+use Rattle.finite.specs.Digits.{digits}
 use Rattle.counting.specs.Table.{Table, columns, levelsOf, times}
 use Rattle.counting.specs.Matrix.{Matrix, differences}
-use Rattle.counting.specs.Digits.{digits}
 use Rattle.counting.specs.Generator.{Generator, factors, columnsOf, combination, IndependentColumns}
 use Rattle.counting.specs.declared.verdict.DependenceFault.{DependenceFault}
 use Rattle.counting.specs.declared.verdict.DifferenceFault.{DifferenceFault}

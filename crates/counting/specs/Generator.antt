@@ -1,9 +1,10 @@
 -- Generators and their independence: document 01, "What is counted", after Theorem 2.1 of 004.
 use mathlib.Core.Path.{_≡_}
 use mathlib.Core.List.{List, [], _∷_, _++_, map}
-use Prim.Native.Nat.{ℕ, zero, suc, _+_, _*_, _<_, min}
+use Prim.Native.Nat.{ℕ, _+_, _*_, _<_, min}
 use lib.ListN.{length, getD}
 use Rattle.finite.specs.Sum.{sum}
+use Rattle.finite.specs.Lists.{from, AllBelow}
 
 -- t coordinates over a field of s elements, the number of columns of each factor, and the field element in a row and a column, both from 0.
 -- The columns of factor 0 come first, then those of factor 1, and so on.
@@ -30,11 +31,6 @@ ElementsInRange G = (r c : ℕ) → r < G .coordinates → c < width (G .widths)
 abbrev pub factors : Generator → ℕ
 factors G = length (G .widths)
 
--- the numbers from a on, n of them
-unfoldable pub from : ℕ → ℕ → List ℕ
-from a zero = []
-from a (suc n) = a ∷ from (suc a) n
-
 -- the columns of factor i
 unfoldable pub factorColumns : List ℕ → ℕ → List ℕ
 factorColumns us i = from (sum i (λ k. getD us k 0)) (getD us i 0)
@@ -49,10 +45,6 @@ unfoldable pub Increasing : ℕ → List ℕ → Type 0
 Increasing n [] = Unit {0}
 Increasing n (i ∷ []) = i < n
 Increasing n (i ∷ j ∷ is) = (i < j) × Increasing n (j ∷ is)
-
--- every number of the list is below n
-unfoldable pub AllBelow : ℕ → List ℕ → Type 0
-AllBelow n xs = (k : ℕ) → k < length xs → getD xs k 0 < n
 
 -- a field's sum and product
 module _ (plus times : ℕ → ℕ → ℕ) where

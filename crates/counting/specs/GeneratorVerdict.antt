@@ -7,8 +7,8 @@ use lib.Dec.{eqb, ltb}
 use lib.ListN.{length}
 use Rattle.finite.specs.Sum.{every}
 use Rattle.finite.specs.First.{first, firstPair}
+use Rattle.finite.specs.Digits.{digits}
 use Rattle.galois.specs.Arithmetic.{fieldSum, fieldProduct}
-use Rattle.counting.specs.Digits.{digits}
 use Rattle.counting.specs.Generator.{Generator, factors, columnsOf, combination}
 use Rattle.counting.specs.declared.verdict.DependenceFault.{DependenceFault}
 use Rattle.counting.specs.declared.verdict.GeneratorFinding.{GeneratorFinding}

@@ -1,13 +1,11 @@
 pub mod Table
 pub mod Matrix
-pub mod Digits
 pub mod Generator
 pub mod Pairs
 pub mod Verdict
 pub mod GeneratorVerdict
 pub mod Combining
 pub mod Marks
-pub mod Tabulated
 pub mod Tally
 pub mod Checkable
 pub mod Failures

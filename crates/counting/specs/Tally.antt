@@ -6,8 +6,8 @@ use lib.Dec.{eqb}
 use lib.ListN.{length, getD}
 use mathlib.Core.Option.{Option}
 use Rattle.finite.specs.Sum.{count}
+use Rattle.finite.specs.Tabulated.{Tabulated}
 use Rattle.counting.specs.Matrix.{difference}
-use Rattle.counting.specs.Tabulated.{Tabulated}
 use Rattle.counting.specs.Verdict.{Counted, deviation}
 
 -- 4,096 counters, all zero

@@ -1,2 +1,5 @@
 pub mod Sum
 pub mod First
+pub mod Lists
+pub mod Digits
+pub mod Tabulated

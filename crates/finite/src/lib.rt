@@ -1,4 +1,5 @@
-// Powers; and counts and sums over the numbers below n, for the proofs of the crates above: their definitions are in specs/, their laws in proofs/.
+// Powers; and sums, counts and first finds over the numbers below n, lists of numbers, digits and tabulated values, for the proofs of the crates
+// above: their definitions are in specs/, their laws in proofs/.
 ghost use mathlib.Core.Path.{_≡_};
 ghost use Prim.Native.Nat.{_^_, _≤_, _<_};
 

@@ -11,11 +11,11 @@ use native.Mathlib.Omega.{arith}
 use lib.Arith.{digits-lt}
 use lib.ListN.{length, getD, length-map, take, drop, replicate, replicate-append-replicate, length-append, length-replicate, length-drop, take-append-drop, List·getD-append}
 use lib.Seq.{getD-append-add, drop-at, drop-drop}
+use Rattle.finite.specs.Lists.{from}
+use Rattle.finite.proofs.Lists.{length-from}
 use Rattle.buffers.specs.Put.{Put}
 use Rattle.buffers.proofs.Puts.{put-front}
-use Rattle.counting.specs.Generator.{from}
 use Rattle.counting.specs.Table.{Table, columns}
-use Rattle.counting.proofs.Lists.{length-from}
 use Rattle.sheets.specs.Sheet.{fromSources}
 use Rattle.sheets.proofs.Lists.{map-getD, getD-map}
 use Rattle.layout.specs.Bytes.{runOf, runsOf, zeros, padded, Zeros}

@@ -7,11 +7,11 @@ use native.Mathlib.Nat.{suc-mul, mul-le-mul-right, zero-add}
 use native.Mathlib.Omega.{arith}
 use lib.ListN.{length, getD, take, length-map, length-append}
 use lib.Seq.{length-take-le, take-all}
+use Rattle.finite.specs.Lists.{from}
+use Rattle.finite.proofs.Lists.{length-from}
 use Rattle.buffers.specs.Put.{Put}
 use Rattle.buffers.proofs.Puts.{put-none, put-join, put-next, put-length}
-use Rattle.counting.specs.Generator.{from}
 use Rattle.counting.specs.Table.{Table, columns}
-use Rattle.counting.proofs.Lists.{length-from}
 use Rattle.layout.specs.Bytes.{runOf, runsOf, zeros, Holds, Zeros}
 use Rattle.layout.proofs.Bytes.{put-padded, from-next, flatMap-suc, flatMap-next, run-length, run-at}
 

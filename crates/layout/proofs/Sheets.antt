@@ -9,9 +9,9 @@ use native.Mathlib.Decide.{decLt}
 use native.Mathlib.Omega.{arith}
 use lib.ListN.{length, getD, take, drop, length-append, length-replicate, getD-replicate, List·getD-append, List·getD-eq-default}
 use lib.Seq.{length-take-le, take-at, drop-at, getD-take, getD-append-add}
+use Rattle.finite.specs.Lists.{from}
 use Rattle.buffers.specs.Put.{Put}
 use Rattle.buffers.proofs.Puts.{put-front}
-use Rattle.counting.specs.Generator.{from}
 use Rattle.counting.specs.Table.{Table, columns, levelsOf, tableOf}
 use Rattle.sheets.specs.Sheet.{Agree}
 use Rattle.sheets.proofs.Agreement.{agree-columns}

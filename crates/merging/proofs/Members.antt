@@ -9,8 +9,8 @@ use native.Mathlib.Omega.{arith}
 use borrow.Author.Count.{below-more}
 use borrow.Author.Tests.{eq-eqb, ne-eqb}
 use lib.ListN.{length, getD, length-map}
+use Rattle.finite.specs.Lists.{AllBelow}
 use Rattle.finite.proofs.Firsts.{first-none, first-at, first-ext}
-use Rattle.counting.specs.Generator.{AllBelow}
 use Rattle.counting.specs.Table.{Table, tableOf}
 use Rattle.sheets.specs.Merge.{memberAt, memberSum, MemberFault, memberFaultAt, memberFault}
 use Rattle.merging.specs.Merging.{membersOf, Fitting, everyRun, runFault, asFault}

@@ -9,10 +9,10 @@ use borrow.Author.Tests.{ne-eqb}
 use lib.Dec.{eqb}
 use lib.ListN.{length, getD, take, drop, length-drop}
 use lib.Seq.{length-take-le, take-suc, getD-drop}
+use Rattle.finite.specs.Lists.{from}
 use Rattle.buffers.specs.Put.{Put}
 use Rattle.buffers.proofs.Puts.{put-none, put-join, put-length}
 use Rattle.galois.specs.Arithmetic.{member}
-use Rattle.counting.specs.Generator.{from}
 use Rattle.counting.specs.Table.{Table, columns}
 use Rattle.sheets.specs.Merge.{MergeSource, kept, merged as merged-column, mergePlace, mergeSources}
 use Rattle.merging.specs.Merging.{HasRoles, Stretch, roleOf, memberPlace, placeBy, mergedRow}

@@ -9,11 +9,11 @@ use lib.Arith.{digits-lt}
 use lib.Dec.{lit≤}
 use lib.ListN.{length, getD, take, drop, length-drop}
 use lib.Seq.{length-take-le, getD-take, getD-drop}
+use Rattle.finite.specs.Lists.{from}
+use Rattle.finite.proofs.Fits.{run-more, run-end}
 use Rattle.buffers.specs.Put.{Put}
 use Rattle.buffers.proofs.Puts.{put-none}
-use Rattle.counting.specs.Generator.{from}
 use Rattle.counting.specs.Table.{Table, columns, tableOf, InRange}
-use Rattle.counting.proofs.Fits.{run-more, run-end}
 use Rattle.sheets.specs.Merge.{mergeSources, mergeLevels, mergedLevel, mergeValue, mergeStep}
 use Rattle.sheets.proofs.Lists.{mem-getD}
 use Rattle.sheets.proofs.Merge.{merge-columns}

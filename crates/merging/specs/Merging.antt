@@ -7,8 +7,8 @@ use Prim.Native.Nat.{ℕ, _+_, _-_, _*_, _≤_, _<_}
 use lib.Dec.{eqb}
 use lib.ListN.{length, getD, take}
 use Rattle.finite.specs.First.{first}
+use Rattle.finite.specs.Lists.{from}
 use Rattle.galois.specs.Arithmetic.{member}
-use Rattle.counting.specs.Generator.{from}
 use Rattle.counting.specs.Table.{Table, InRange, tableOf}
 use Rattle.sheets.specs.Merge.{MergeFits, MemberFault, memberFaultAt}
 use Rattle.layout.specs.Step.{Ready}

@@ -10,16 +10,16 @@ use lib.Arith.{digits-lt}
 use lib.Dec.{T}
 use lib.ListN.{getD}
 use lib.Seq.{getD-take}
+use Rattle.finite.specs.Lists.{from}
+use Rattle.finite.proofs.Tabulated.{looked-up}
 use Rattle.galois.specs.Arithmetic.{fieldSize}
 use Rattle.counting.proofs.Combinings.{size-positive}
-use Rattle.counting.specs.Generator.{from}
 use Rattle.counting.specs.Table.{Table, columns}
 use Rattle.galois.proofs.Fields.{field}
 use Rattle.buffers.specs.Put.{Put}
 use Rattle.layout.specs.Bytes.{runOf}
 use Rattle.buffers.proofs.Puts.{put-front}
 use Rattle.layout.proofs.Bytes.{map-below, pieces-length, pieces-at, run-length, run-at}
-use Rattle.counting.proofs.Tabulated.{looked-up}
 use Rattle.opening.specs.FieldPlaces.{GeneratorStands}
 use Rattle.opening.specs.LevelSums.{digitSums, WidthsTo, Sums, single, Leads, RunsBefore, SumsStand, runSum}
 use Rattle.opening.specs.declared.field.GeneratorAt.{GeneratorAt}

@@ -9,15 +9,16 @@ use native.Mathlib.Omega.{arith}
 use lib.Arith.{digits-div, digits-mod}
 use lib.ListN.{length, getD, drop}
 use lib.Seq.{getD-take, getD-drop}
+use Rattle.finite.specs.Digits.{digits, numeral}
+use Rattle.finite.specs.Lists.{from}
+use Rattle.finite.proofs.Digits.{digits-below, numeral-below}
+use Rattle.finite.proofs.Fits.{place-below}
+use Rattle.finite.proofs.Lists.{below-from, below-map, length-from}
 use Rattle.galois.specs.Arithmetic.{fieldSum, fieldProduct}
 use Rattle.galois.specs.Laws.{Field}
 use Rattle.galois.proofs.Fields.{field}
-use Rattle.counting.specs.Digits.{digits, numeral}
-use Rattle.counting.specs.Generator.{generatorOf, combination, from, width, ElementsInRange}
+use Rattle.counting.specs.Generator.{generatorOf, combination, width, ElementsInRange}
 use Rattle.counting.proofs.Combinings.{size-positive}
-use Rattle.counting.proofs.Digits.{digits-below, numeral-below}
-use Rattle.counting.proofs.Fits.{place-below}
-use Rattle.counting.proofs.Lists.{below-from, below-map, length-from}
 use Rattle.sheets.specs.Field.{columnElements, values}
 use Rattle.counting.proofs.FieldAlgebra.{combination-below}
 use Rattle.sheets.proofs.FieldCount.{values-length, values-below}

@@ -6,8 +6,9 @@ use Prim.Native.Nat.{ℕ, _+_, _*_}
 use native.Mathlib.Nat.{add-zero, zero-mul, zero-add, add-assoc, mul-assoc, mul-one, add-mul, pow-zero, pow-suc}
 use native.Mathlib.Numerals.{add-one}
 use lib.ListN.{length-append}
-use Rattle.counting.specs.Digits.{numeral}
-use Rattle.counting.specs.Generator.{Generator, combination, from}
+use Rattle.finite.specs.Digits.{numeral}
+use Rattle.finite.specs.Lists.{from}
+use Rattle.counting.specs.Generator.{Generator, combination}
 use Rattle.sheets.specs.Field.{columnElements, values}
 use Rattle.sheets.proofs.FieldCount.{values-append}
 use Rattle.layout.proofs.Bytes.{from-next}

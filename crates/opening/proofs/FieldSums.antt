@@ -7,12 +7,12 @@ use native.Mathlib.Nat.{add-zero, zero-add, zero-mul, suc-add, pow-succ', mul-lt
 use native.Mathlib.Omega.{arith}
 use lib.Arith.{digits-div}
 use lib.ListN.{length-map}
+use Rattle.finite.specs.Digits.{digits}
+use Rattle.finite.specs.Lists.{from}
+use Rattle.finite.proofs.Digits.{digits-append, digits-length, digits-zero, digits-below, digits-low, digits-cons}
+use Rattle.finite.proofs.Lists.{Below, below-map, below-from, length-from}
 use Rattle.galois.specs.Laws.{Field}
-use Rattle.counting.specs.Digits.{digits}
-use Rattle.counting.specs.Generator.{combination, from}
-use Rattle.counting.proofs.Combinings.{digits-append}
-use Rattle.counting.proofs.Digits.{digits-length, digits-zero, digits-below, digits-low, digits-cons}
-use Rattle.counting.proofs.Lists.{Below, below-map, below-from, length-from}
+use Rattle.counting.specs.Generator.{combination}
 use Rattle.counting.proofs.FieldAlgebra.{zero-below, zero-plus, plus-zero, product-below, combination-below, combination-append, zero-coefficients}
 
 from-append : (a m k : ℕ) → from a (m + k) ≡ from a m ++ from (a + m) k

@@ -8,11 +8,11 @@ use native.Mathlib.Omega.{arith}
 use lib.Arith.{digits-lt, digits-div, digits-mod}
 use lib.Dec.{T, lit≤}
 use lib.ListN.{getD, set, replicate, length-replicate, getD-replicate}
+use Rattle.finite.proofs.Tabulated.{tabulated-more}
 use Rattle.galois.specs.Arithmetic.{fieldSize, fieldSum, fieldProduct}
 use Rattle.galois.specs.Laws.{Field}
 use Rattle.galois.proofs.Fields.{field}
 use Rattle.counting.proofs.FieldAlgebra.{zero-below, zero-plus, sum-below}
-use Rattle.counting.proofs.Tabulated.{tabulated-more}
 use Rattle.opening.specs.LevelSums.{digitSums, SumsOf}
 
 module _ (s : ℕ) (size : T (fieldSize s)) where

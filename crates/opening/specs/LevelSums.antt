@@ -4,10 +4,10 @@ use mathlib.Core.Path.{_≡_}
 use mathlib.Core.List.{List, map}
 use Prim.Native.Nat.{ℕ, zero, suc, _+_, _-_, _*_, _/_, _%_, _^_, _≤_, _<_}
 use lib.ListN.{length, getD}
+use Rattle.finite.specs.Lists.{from}
+use Rattle.finite.specs.Tabulated.{Tabulated}
 use Rattle.galois.specs.Arithmetic.{fieldSum}
-use Rattle.counting.specs.Generator.{from}
 use Rattle.counting.specs.Table.{Table, columns}
-use Rattle.counting.specs.Tabulated.{Tabulated}
 use Rattle.opening.specs.declared.field.GeneratorAt.{GeneratorAt}
 use Rattle.opening.specs.declared.field.Leading.{Leading}
 

@@ -9,12 +9,12 @@ use lib.Arith.{digits-mod}
 use lib.Dec.{T, leb, ltb, leb→le, ltb→lt}
 use lib.ListN.{length, getD}
 use mir.Facts.{and-yes}
+use Rattle.finite.proofs.Fits.{place-below}
 use Rattle.galois.specs.Arithmetic.{fieldSize}
 use Rattle.galois.proofs.Tests.{all, passed}
 use Rattle.counting.specs.Table.{tableOf, InRange}
 use Rattle.counting.specs.Matrix.{matrixOf, EntriesInRange}
 use Rattle.counting.specs.Generator.{width, generatorOf, ElementsInRange}
-use Rattle.counting.proofs.Fits.{place-below}
 use Rattle.papers.specs.Digits.{digitValues}
 use Rattle.papers.specs.Written.{WrittenTable, WrittenMatrix, WrittenGenerator}
 

@@ -5,7 +5,7 @@ use mathlib.Core.List.{List, [], _∷_, map, flatMap}
 use mathlib.Core.Option.{bind}
 use Prim.Native.Nat.{ℕ}
 use Rattle.finite.specs.First.{first}
-use Rattle.counting.specs.Generator.{from}
+use Rattle.finite.specs.Lists.{from}
 use Rattle.counting.specs.Table.{tableOf}
 use Rattle.house.specs.House.{houseTable, houseOf, house101}
 use Rattle.order.specs.Reader.{allowed}

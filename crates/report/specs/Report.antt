@@ -2,7 +2,7 @@
 use mathlib.Core.List.{List, [], _∷_, map, flatMap}
 use Prim.Native.Nat.{ℕ, _+_, _*_, _≤_}
 use lib.ListN.{length, take}
-use Rattle.counting.specs.Generator.{from}
+use Rattle.finite.specs.Lists.{from}
 use Rattle.counting.specs.Table.{columns}
 use Rattle.lines.specs.Lines.{refusedLine, printed, printedLines}
 use Rattle.words.specs.Words.{Reading, numbers, refused, reading}

@@ -10,9 +10,9 @@ use native.Mathlib.Nat.{one-mul, mul-left-comm}
 use lib.Dec.{eqb}
 use lib.ListN.{length, getD, length-map}
 use Rattle.finite.specs.Sum.{count}
+use Rattle.finite.specs.Lists.{from}
 use Rattle.finite.proofs.Tests.{and-left-comm}
 use Rattle.finite.proofs.Counts.{count-ext, count-all}
-use Rattle.counting.specs.Generator.{from}
 use Rattle.counting.specs.Table.{Table, columns, levelsOf, Setting, shows, times, combinations, Apart, Settings, InRange, Even}
 use Rattle.sheets.specs.Lists.{Distinct}
 use Rattle.sheets.specs.Sheet.{fromSources, OrthogonalArray, LevelsAtMost}

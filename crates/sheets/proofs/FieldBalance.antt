@@ -12,14 +12,14 @@ use native.Mathlib.Omega.{arith}
 use lib.Dec.{eqb}
 use lib.ListN.{length, length-map}
 use Rattle.finite.specs.Sum.{sum, count, bit}
+use Rattle.finite.specs.Digits.{digits}
 use Rattle.finite.proofs.Tests.{eqb-agree}
 use Rattle.finite.proofs.Sums.{sum-ext, sum-const, sum-mul, sum-single}
 use Rattle.finite.proofs.Counts.{count-ext, count-product, count-const}
+use Rattle.finite.proofs.Lists.{Below, none, more, below-map}
+use Rattle.finite.proofs.Digits.{digits-below, digits-cons}
 use Rattle.galois.specs.Laws.{Field}
-use Rattle.counting.specs.Digits.{digits}
 use Rattle.counting.specs.Generator.{combination}
-use Rattle.counting.proofs.Lists.{Below, none, more, below-map}
-use Rattle.counting.proofs.Digits.{digits-below, digits-cons}
 use Rattle.counting.proofs.FieldAlgebra.{zero-below, sum-below, product-below, zero-plus, plus-zero, plus-assoc, cancel-right, solution, solution-below, solved, combination-below, zero-elements}
 
 -- a count over the s ^ (n + 1) tuples, by the first coordinate

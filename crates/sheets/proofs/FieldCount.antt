@@ -12,14 +12,15 @@ use borrow.Author.Tests.{eq-eqb}
 use lib.Dec.{T, eqb, eqb→eq}
 use lib.ListN.{length, replicate, length-map}
 use Rattle.finite.specs.Sum.{count, bit}
+use Rattle.finite.specs.Digits.{digits}
+use Rattle.finite.specs.Lists.{AllBelow, from}
 use Rattle.finite.proofs.Tests.{eqb-sym}
 use Rattle.finite.proofs.Sums.{sum-ext, sum-mul}
 use Rattle.finite.proofs.Counts.{count-ext, count-all, count-exchange, count-one, sum-marked}
+use Rattle.finite.proofs.Lists.{Below, each-below, all-below, all-zero, below-map, below-from, map-from, same, eq→same, same→eq, length-from}
+use Rattle.finite.proofs.Digits.{digits-length, digits-below, digits-zero, digits-injective}
 use Rattle.galois.specs.Laws.{Field}
-use Rattle.counting.specs.Digits.{digits}
-use Rattle.counting.specs.Generator.{Generator, ElementsInRange, AllBelow, from, width, combination, IndependentColumns}
-use Rattle.counting.proofs.Lists.{Below, each-below, all-below, all-zero, below-map, below-from, map-from, same, eq→same, same→eq, length-from}
-use Rattle.counting.proofs.Digits.{digits-length, digits-below, digits-zero, digits-injective}
+use Rattle.counting.specs.Generator.{Generator, ElementsInRange, width, combination, IndependentColumns}
 use Rattle.counting.proofs.FieldAlgebra.{zero-below, combination-below, zero-coefficients, combination-exchange}
 use Rattle.sheets.specs.Field.{columnElements, values}
 use Rattle.sheets.proofs.FieldBalance.{count-equal, count-value}

@@ -10,13 +10,13 @@ use native.Mathlib.Nat.{pow-zero}
 use lib.ListN.{length, getD, length-map, length-append}
 use lib.Pow.{pow-add}
 use Rattle.finite.specs.Sum.{sum}
+use Rattle.finite.specs.Digits.{digits}
 use Rattle.finite.proofs.Counts.{count-ext}
+use Rattle.finite.proofs.Lists.{Below, none, more, each-below, below-append, length-from, getD-map, same, same-append}
+use Rattle.finite.proofs.Digits.{digits-length, digits-below, numeral-below, numeral-test}
 use Rattle.galois.specs.Laws.{Field}
-use Rattle.counting.specs.Digits.{digits}
 use Rattle.counting.specs.Generator.{Generator, ElementsInRange, factors, factorColumns, columnsOf, Independent}
 use Rattle.counting.specs.Table.{Table, columns, levelsOf, Setting, shows, times as timesIn, combinations, Apart, Settings, InRange, Even}
-use Rattle.counting.proofs.Lists.{Below, none, more, each-below, below-append, length-from, getD-map, same, same-append}
-use Rattle.counting.proofs.Digits.{digits-length, digits-below, numeral-below, numeral-test}
 use Rattle.counting.proofs.FieldAlgebra.{zero-below}
 use Rattle.counting.proofs.Factors.{factor-below}
 use Rattle.sheets.specs.Lists.{Distinct}

@@ -8,8 +8,8 @@ use native.Mathlib.Nat.{min-zero, lt-suc-self, le-step, lt-trans, not-suc-le-zer
 use native.Mathlib.Decide.{ℕ-discrete, decLe}
 use native.Mathlib.Omega.{arith}
 use lib.ListN.{length, length-append}
+use Rattle.finite.proofs.Lists.{Below, none, more}
 use Rattle.counting.specs.Generator.{Increasing, columnsOf, factorColumns}
-use Rattle.counting.proofs.Lists.{Below, none, more}
 use Rattle.sheets.specs.Lists.{Distinct}
 
 -- l has the members of rest and c, which stands somewhere among them

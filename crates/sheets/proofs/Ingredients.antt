@@ -16,6 +16,7 @@ use Rattle.finite.specs.First.{_orElse_}
 use Rattle.finite.specs.Sum.{sum, every}
 use Rattle.finite.proofs.Tests.{all-every}
 use Rattle.finite.proofs.Sums.{sum-first}
+use Rattle.finite.proofs.Fits.{place-below}
 use Rattle.galois.specs.Arithmetic.{fieldSize, fieldSum, fieldProduct}
 use Rattle.galois.specs.Laws.{Field}
 use Rattle.galois.proofs.Fields.{field}
@@ -24,7 +25,6 @@ use Rattle.counting.specs.Table.{Table, columns, tableOf, InRange}
 use Rattle.counting.specs.Matrix.{Matrix, matrixOf, EntriesInRange as MatrixInRange}
 use Rattle.counting.specs.Generator.{Generator, factors, generatorOf, width, ElementsInRange}
 use Rattle.house.specs.House.{house101, house102, house103, house104, houseOf, houseTable}
-use Rattle.counting.proofs.Fits.{place-below}
 use Rattle.house.proofs.Passing.{house-passes, house-even, house-number}
 use Rattle.order.specs.Order.{Ingredient, table, matrix, generator, Order, total, All, Between, FieldSize, Width, IngredientLimits, WithinLimits}
 use Rattle.order.specs.Range.{entriesOf, bound, EntriesInRange}

@@ -12,11 +12,11 @@ use borrow.Author.Tests.{eq-eqb, eqb-true}
 use lib.Dec.{T, eqb, eqb→eq, T-not, not-T}
 use lib.ListN.{length, getD, length-append}
 use Rattle.finite.specs.Sum.{sum, count, bit}
+use Rattle.finite.specs.Lists.{from}
 use Rattle.finite.proofs.Tests.{T-and}
 use Rattle.finite.proofs.Sums.{sum-ext, sum-add, sum-zero, sum-first}
 use Rattle.finite.proofs.Counts.{count-one}
 use Rattle.galois.specs.Arithmetic.{member}
-use Rattle.counting.specs.Generator.{from}
 use Rattle.sheets.specs.Lists.{Distinct, allOf, allDifferent}
 
 module _ {A : Type 0} where

@@ -12,11 +12,11 @@ use lib.Arith.{lt-one, digits-lt, digits-div, digits-mod}
 use lib.Dec.{T, eqb, eqb→eq}
 use lib.ListN.{length, getD, length-map}
 use Rattle.finite.specs.Sum.{sum, count, bit}
+use Rattle.finite.specs.Lists.{from}
 use Rattle.finite.proofs.Tests.{agree, T-and, T-eqb}
 use Rattle.finite.proofs.Sums.{sum-ext, sum-add, sum-mul, sum-const}
 use Rattle.finite.proofs.Counts.{count-ext, count-and, count-exchange, count-one, sum-balance}
 use Rattle.galois.specs.Arithmetic.{member}
-use Rattle.counting.specs.Generator.{from}
 use Rattle.counting.specs.Table.{Table, columns, Setting, shows, times, combinations, Apart, Settings, InRange, Even}
 use Rattle.sheets.specs.Lists.{Distinct}
 use Rattle.sheets.specs.Sheet.{fromSources, OrthogonalArray, LevelsAtMost}

@@ -10,10 +10,10 @@ use borrow.Author.Tests.{eqb-true, eqb-false}
 use lib.Dec.{eqb}
 use lib.ListN.{length, length-map}
 use Rattle.finite.specs.Sum.{count, bit}
+use Rattle.finite.specs.Lists.{from}
 use Rattle.finite.proofs.Counts.{count-one, sum-balance}
-use Rattle.counting.specs.Generator.{from}
+use Rattle.finite.proofs.Lists.{length-from}
 use Rattle.counting.specs.Table.{Table, columns, shows, times, combinations, Settings, InRange, Even}
-use Rattle.counting.proofs.Lists.{length-from}
 use Rattle.sheets.specs.Lists.{Distinct}
 use Rattle.sheets.specs.Sheet.{fromSources, OrthogonalArray, LevelsAtMost}
 use Rattle.sheets.specs.Split.{SplitSource, kept, part, splitPlace, splitSources, splitLevels, splitValue, splitStep, SplitFits}

@@ -12,9 +12,9 @@ use native.Mathlib.Omega.{arith}
 use lib.Dec.{T, eqb, ltb}
 use lib.ListN.{length, getD, List·getD-eq-default}
 use Rattle.finite.specs.First.{first}
+use Rattle.finite.specs.Lists.{from}
 use Rattle.finite.proofs.Firsts.{first-ext}
 use Rattle.galois.specs.Arithmetic.{member}
-use Rattle.counting.specs.Generator.{from}
 use Rattle.counting.specs.Matrix.{Matrix}
 use Rattle.counting.specs.Table.{Table, columns, InRange}
 use Rattle.order.specs.Order.{Step, Order}

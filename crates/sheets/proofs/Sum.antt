@@ -15,13 +15,13 @@ use lib.Arith.{digits-div, digits-mod}
 use lib.Dec.{eqb}
 use lib.ListN.{length, length-append, length-map}
 use Rattle.finite.specs.Sum.{sum, count, bit}
+use Rattle.finite.specs.Lists.{from}
 use Rattle.finite.proofs.Sums.{sum-ext}
 use Rattle.finite.proofs.Counts.{count-ext, count-and, count-product, count-exchange, sum-passing}
+use Rattle.finite.proofs.Lists.{length-from}
 use Rattle.galois.specs.Laws.{AbelianGroup}
-use Rattle.counting.specs.Generator.{from}
 use Rattle.counting.specs.Matrix.{Matrix, EntriesInRange}
 use Rattle.counting.specs.Table.{Table, columns, levelsOf, Setting, shows, times, combinations, Apart, Settings, InRange, Even}
-use Rattle.counting.proofs.Lists.{length-from}
 use Rattle.sheets.specs.Lists.{Distinct}
 use Rattle.sheets.specs.Sheet.{fromSources, OrthogonalArray, LevelsAtMost}
 use Rattle.sheets.specs.Sum.{levelSum, PassingMatrix, rowsOf, serving, adjoinedTable, SumSource, summed, adjoined, summedWith, summedColumns, sumPlace, sumSources, sumLevels, sumEntry, sumValue, sumStep, SumFits}

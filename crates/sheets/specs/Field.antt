@@ -1,8 +1,9 @@
 -- Step 2, FIELD: the table that a generator makes (document 01, "Steps by kind"; the orthogonal array of Theorem 2.1 of 004).
 use mathlib.Core.List.{List, map}
 use Prim.Native.Nat.{ℕ, _^_}
-use Rattle.counting.specs.Digits.{digits, numeral}
-use Rattle.counting.specs.Generator.{Generator, combination, factorColumns, from}
+use Rattle.finite.specs.Digits.{digits, numeral}
+use Rattle.finite.specs.Lists.{from}
+use Rattle.counting.specs.Generator.{Generator, combination, factorColumns}
 use Rattle.counting.specs.Table.{Table}
 
 -- the t field elements of column c, first coordinate first

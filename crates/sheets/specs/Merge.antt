@@ -8,8 +8,8 @@ use Prim.Native.Nat.{ℕ, _+_, _-_, _*_, _%_, _≤_, _<_}
 use lib.Dec.{eqb, ltb}
 use lib.ListN.{length, getD}
 use Rattle.finite.specs.First.{first}
+use Rattle.finite.specs.Lists.{from}
 use Rattle.galois.specs.Arithmetic.{member}
-use Rattle.counting.specs.Generator.{from}
 use Rattle.counting.specs.Table.{Table, columns, levelsOf}
 use Rattle.sheets.specs.Lists.{Distinct, allOf, allDifferent}
 use Rattle.sheets.specs.Sheet.{fromSources}

@@ -4,7 +4,7 @@ use mathlib.Core.Bool.{Bool, cond, _&&_}
 use mathlib.Core.List.{List, [], _∷_, map, flatMap}
 use Prim.Native.Nat.{ℕ, _<_}
 use lib.Dec.{eqb, ltb}
-use Rattle.counting.specs.Generator.{from}
+use Rattle.finite.specs.Lists.{from}
 use Rattle.counting.specs.Table.{Table, columns, levelsOf}
 use Rattle.sheets.specs.Sheet.{fromSources}
 

@@ -6,8 +6,8 @@ use mathlib.Core.List.{List, [], _∷_, _++_, map, flatMap, List·Memᴰ}
 use mathlib.Core.Option.{Option, none, some}
 use Prim.Native.Nat.{ℕ, _+_, _*_, _/_, _%_}
 use lib.Dec.{eqb}
+use Rattle.finite.specs.Lists.{from}
 use Rattle.galois.specs.Arithmetic.{member}
-use Rattle.counting.specs.Generator.{from}
 use Rattle.counting.specs.Matrix.{Matrix, EntriesInRange, DifferenceMatrix}
 use Rattle.counting.specs.Table.{Table, columns, levelsOf}
 use Rattle.sheets.specs.Lists.{Distinct, allOf, allDifferent}

@@ -9,7 +9,7 @@ use native.Mathlib.Omega.{arith}
 use borrow.Author.Tests.{eq-eqb, ne-eqb}
 use lib.ListN.{length, getD, take, drop, length-append, length-take, length-drop}
 use lib.Seq.{take-all, length-take-le, getD-take, getD-drop}
-use Rattle.counting.specs.Generator.{from}
+use Rattle.finite.specs.Lists.{from}
 use Rattle.counting.specs.Table.{Table, columns, levelsOf, tableOf}
 use Rattle.sheets.specs.Sheet.{fromSources}
 use Rattle.sheets.specs.Split.{SplitSource, kept, part, splitPlace, splitSources, splitLevels, splitValue, splitStep}

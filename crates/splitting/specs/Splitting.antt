@@ -2,7 +2,7 @@
 use mathlib.Core.List.{List, _++_, flatMap}
 use Prim.Native.Nat.{ℕ, _+_, _*_}
 use lib.ListN.{getD, take, drop}
-use Rattle.counting.specs.Generator.{from}
+use Rattle.finite.specs.Lists.{from}
 use Rattle.counting.specs.Table.{Table}
 use Rattle.layout.specs.Bytes.{runOf}
 

@@ -11,10 +11,10 @@ use borrow.Author.Tests.{lt-ltb, le-ltb}
 use lib.Dec.{ltb}
 use lib.ListN.{length, getD, take, drop, length-append}
 use lib.Seq.{take-suc, take-all, length-take-le, split-at}
+use Rattle.finite.specs.Lists.{from}
+use Rattle.finite.proofs.Lists.{length-from}
 use Rattle.buffers.specs.Put.{Put}
 use Rattle.buffers.proofs.Puts.{put-none, put-join, put-next, put-length}
-use Rattle.counting.specs.Generator.{from}
-use Rattle.counting.proofs.Lists.{length-from}
 use Rattle.sheets.specs.Lists.{allOf}
 use Rattle.layout.proofs.Bytes.{flatMap-append, getD-from}
 

@@ -11,11 +11,11 @@ use lib.Arith.{digits-lt}
 use lib.Dec.{eqb, ltb}
 use lib.ListN.{length, getD, take, drop, replicate}
 use lib.Seq.{getD-take, getD-drop}
+use Rattle.finite.specs.Lists.{from}
+use Rattle.finite.proofs.Fits.{run-end}
 use Rattle.galois.specs.Arithmetic.{member}
-use Rattle.counting.specs.Generator.{from}
 use Rattle.counting.specs.Matrix.{Matrix, matrixOf}
 use Rattle.counting.specs.Table.{Table, columns, tableOf}
-use Rattle.counting.proofs.Fits.{run-end}
 use Rattle.sheets.specs.Lists.{allOf}
 use Rattle.sheets.specs.Sheet.{fromSources}
 use Rattle.sheets.specs.Sum.{levelSum, modulusOf, rowsOf, adjoinedTable, SumSource, adjoined, summedWith, sumPlace, sumSources, sumLevels, sumEntry, sumValue, sumStep, sumFits}

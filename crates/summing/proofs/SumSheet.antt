@@ -10,10 +10,10 @@ use native.Mathlib.Omega.{arith}
 use lib.Dec.{leb}
 use lib.ListN.{length, getD, take, drop, replicate, length-append, length-replicate}
 use lib.Seq.{length-take-le}
+use Rattle.finite.specs.Lists.{from, AllBelow}
 use Rattle.finite.proofs.Sums.{sum-ext}
 use Rattle.buffers.specs.Put.{Put}
 use Rattle.buffers.proofs.Puts.{put-length}
-use Rattle.counting.specs.Generator.{from, AllBelow}
 use Rattle.counting.specs.Table.{Table, columns, tableOf}
 use Rattle.sheets.specs.Sheet.{LevelsAtMost, SmallEnough, smallEnough}
 use Rattle.sheets.specs.Steps.{filled, refused, sized}

@@ -7,11 +7,11 @@ use native.Mathlib.Nat.{mod-eq-of-lt, mod-eq-sub-mod, mod-lt, div-lt-iff-lt-mul,
 use native.Mathlib.Omega.{arith}
 use lib.Arith.{digits-lt}
 use lib.ListN.{length, getD, take, drop, length-append, length-map, replicate, replicate-append-replicate}
+use Rattle.finite.specs.Lists.{AllBelow}
+use Rattle.finite.proofs.Fits.{run-end}
 use Rattle.buffers.specs.Put.{Put}
 use Rattle.buffers.proofs.Puts.{put-join}
-use Rattle.counting.specs.Generator.{AllBelow}
 use Rattle.counting.specs.Table.{Table, columns, tableOf, InRange}
-use Rattle.counting.proofs.Fits.{run-end}
 use Rattle.sheets.specs.Sum.{levelSum}
 use Rattle.sheets.proofs.Sum.{factor-positive}
 use Rattle.ingredients.proofs.Parts.{part-length, part-at}

@@ -7,7 +7,7 @@ ghost use mathlib.Core.Bool.{true};
 ghost use Prim.Native.Nat.{_≤_, _<_};
 ghost use lib.Dec.{eqb};
 ghost use lib.ListN.{length, getD};
-ghost use Rattle.counting.specs.Generator.{AllBelow};
+ghost use Rattle.finite.specs.Lists.{AllBelow};
 ghost use Rattle.counting.specs.Table.{columns as columnsOf};
 ghost use Rattle.ingredients.specs.Named.{tableIn, someTable, Legible};
 ghost use Rattle.sheets.specs.Sum.{adjoinedTable};

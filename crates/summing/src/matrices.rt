@@ -5,7 +5,7 @@ ghost use mathlib.Core.Bool.{true};
 ghost use Prim.Native.Nat.{_<_};
 ghost use lib.Dec.{ltb};
 ghost use lib.ListN.{length, getD};
-ghost use Rattle.counting.specs.Generator.{AllBelow};
+ghost use Rattle.finite.specs.Lists.{AllBelow};
 ghost use Rattle.order.specs.Grammar.{readOrder};
 ghost use Rattle.order.specs.Places.{ingredientAt};
 ghost use Rattle.sheets.specs.Lists.{allOf};

@@ -5,9 +5,9 @@ use native.Mathlib.Nat.{le-antisymm, zero-mul}
 use native.Mathlib.Omega.{arith}
 use borrow.Author.Needs.{needs}
 use lib.ListN.{length}
+use Rattle.finite.proofs.Fits.{run-more, run-end}
 use Rattle.buffers.proofs.Puts.{put-length}
 use Rattle.counting.specs.Table.{tableOf}
-use Rattle.counting.proofs.Fits.{run-more, run-end}
 use Rattle.sheets.specs.Merge.{mergeStep}
 use Rattle.sheets.specs.Sheet.{fromSources}
 use Rattle.merging.specs.Merging.{membersOf}

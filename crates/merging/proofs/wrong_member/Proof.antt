@@ -5,8 +5,8 @@ use native.Mathlib.Nat.{zero-mul}
 use native.Mathlib.Omega.{arith}
 use borrow.Author.Needs.{needs}
 use lib.ListN.{length}
+use Rattle.finite.proofs.Fits.{run-more}
 use Rattle.counting.specs.Table.{tableOf}
-use Rattle.counting.proofs.Fits.{run-more}
 use Rattle.merging.specs.Merging.{membersOf}
 use Rattle.merging.proofs.Sheet.{row-end}
 use Rattle.merging.proofs.Members.{members-in-row, RightRuns, runs-right-none, runs-right-next, runs-wrong, runs-right}

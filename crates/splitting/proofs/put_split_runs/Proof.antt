@@ -7,9 +7,9 @@ use native.Mathlib.Numerals.{add-one}
 use native.Mathlib.Omega.{arith}
 use borrow.Author.Needs.{needs}
 use lib.ListN.{length}
+use Rattle.finite.specs.Lists.{from}
 use Rattle.buffers.specs.Put.{Put}
 use Rattle.buffers.proofs.Puts.{put-length}
-use Rattle.counting.specs.Generator.{from}
 use Rattle.ingredients.specs.Named.{tableIn}
 use Rattle.splitting.specs.Splitting.{splitRun, runIn, splitRuns}
 use Rattle.layout.proofs.Rows.{pieces-none, pieces-next, pieces-room}

@@ -7,10 +7,10 @@ use native.Mathlib.Numerals.{add-one}
 use native.Mathlib.Omega.{arith}
 use denote.Ref.{now}
 use lib.ListN.{length}
-use Rattle.counting.specs.Digits.{horner}
+use Rattle.finite.specs.Digits.{horner}
+use Rattle.finite.proofs.Fits.{product-fits, run-more, run-end}
 use Rattle.counting.specs.Combining.{noBlock, rowCombination, combinationCode}
 use Rattle.counting.proofs.Combinings.{block-elements}
-use Rattle.counting.proofs.Fits.{product-fits, run-more, run-end}
 use borrow.Author.Needs.{needs}
 use Rattle.counting.proofs.generator.combination_code.Statement.{statement}
 use Rattle.counting.proofs.generator.combination_code.Tie as tie

@@ -7,9 +7,9 @@ use native.Mathlib.Omega.{arith}
 use borrow.Author.Count.{below-more}
 use denote.Ref.{now}
 use lib.ListN.{length}
+use Rattle.finite.proofs.Fits.{run-more, run-end}
 use Rattle.counting.specs.Combining.{rowCombination}
 use Rattle.counting.proofs.Combinings.{block-elements, rows-combine, row-fails}
-use Rattle.counting.proofs.Fits.{run-more, run-end}
 use borrow.Author.Needs.{needs}
 use Rattle.counting.proofs.generator.combines_to_zero.Statement.{statement}
 use Rattle.counting.proofs.generator.combines_to_zero.Tie as tie

@@ -4,9 +4,9 @@ use mathlib.Core.Path.{refl}
 use Prim.Native.Nat.{ℕ, _+_, _-_, _*_, _/_, _%_, _≤_, _<_}
 use native.Mathlib.Nat.{mul-le-mul, mod-lt, lt-of-lt-of-le, div-lt-iff-lt-mul}
 use native.Mathlib.Omega.{arith}
+use Rattle.finite.proofs.Tabulated.{tabulated-none, tabulated-more}
 use Rattle.counting.specs.Matrix.{difference}
 use Rattle.counting.specs.Tally.{DifferencesOf}
-use Rattle.counting.proofs.Tabulated.{tabulated-none, tabulated-more}
 use Rattle.counting.proofs.tally.difference_table.Statement.{statement}
 use Rattle.counting.proofs.tally.difference_table.Tie as tie
 

@@ -10,11 +10,11 @@ use borrow.Author.Needs.{needs}
 use borrow.Author.Count.{below-more}
 use lib.ListN.{length, getD}
 use lib.Seq.{getD-set-other}
+use Rattle.finite.proofs.Fits.{product-fits}
 use Rattle.counting.specs.Verdict.{asDeviation}
 use Rattle.counting.specs.declared.verdict.Deviation.the-variants.{At}
 use Rattle.counting.proofs.Deviations.{deviation-none, deviation-at, at-not-nowhere}
 use Rattle.counting.proofs.Tallies.{reset}
-use Rattle.counting.proofs.Fits.{product-fits}
 use Rattle.counting.proofs.tally.first_deviation.Statement.{statement}
 use Rattle.counting.proofs.tally.first_deviation.Tie as tie
 

@@ -9,11 +9,11 @@ use borrow.Author.Needs.{needs}
 use lib.Arith.{digits-lt}
 use lib.Dec.{lit≤}
 use lib.ListN.{length, getD}
+use Rattle.finite.proofs.Tabulated.{looked-up}
+use Rattle.finite.proofs.Fits.{place-below, run-more, run-end, offset-fits}
 use Rattle.counting.specs.Matrix.{matrixOf, difference, rowDifference, EntriesInRange}
 use Rattle.counting.specs.Tally.{Tallied}
 use Rattle.counting.proofs.Tallies.{tallied-none, tallied-more, counter-fits}
-use Rattle.counting.proofs.Tabulated.{looked-up}
-use Rattle.counting.proofs.Fits.{place-below, run-more, run-end, offset-fits}
 use Rattle.counting.proofs.tally.tally_differences.Statement.{statement}
 use Rattle.counting.proofs.tally.tally_differences.Tie as tie
 

@@ -7,9 +7,9 @@ use native.Mathlib.Nat.{zero-mul, le-trans, le-antisymm}
 use native.Mathlib.Omega.{arith}
 use borrow.Author.Needs.{needs}
 use lib.ListN.{length, getD}
+use Rattle.finite.proofs.Fits.{place-below, run-more, run-end}
 use Rattle.counting.specs.Tally.{Tallied, levelsKey}
 use Rattle.counting.proofs.Tallies.{tallied-none, tallied-more, counter-fits}
-use Rattle.counting.proofs.Fits.{place-below, run-more, run-end}
 use Rattle.counting.proofs.tally.tally_levels.Statement.{statement}
 use Rattle.counting.proofs.tally.tally_levels.Tie as tie
 

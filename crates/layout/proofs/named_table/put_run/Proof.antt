@@ -4,9 +4,9 @@ use mathlib.Core.List.{map}
 use Prim.Native.Nat.{_≤_, _-_}
 use native.Mathlib.Omega.{arith}
 use borrow.Author.Needs.{needs}
+use Rattle.finite.specs.Lists.{from}
 use Rattle.buffers.specs.Put.{Put}
 use Rattle.buffers.proofs.Puts.{put-length}
-use Rattle.counting.specs.Generator.{from}
 use Rattle.counting.specs.Table.{columns}
 use Rattle.ingredients.specs.Named.{tableIn}
 use Rattle.layout.specs.Bytes.{runOf}

@@ -7,10 +7,10 @@ use native.Mathlib.Omega.{arith}
 use borrow.Author.Needs.{needs}
 use denote.Ref.{now}
 use lib.ListN.{length, getD}
+use Rattle.finite.specs.Digits.{numeral}
+use Rattle.finite.specs.Lists.{from}
+use Rattle.finite.proofs.Fits.{run-end}
 use Rattle.galois.specs.Arithmetic.{fieldProduct}
-use Rattle.counting.specs.Digits.{numeral}
-use Rattle.counting.specs.Generator.{from}
-use Rattle.counting.proofs.Fits.{run-end}
 use Rattle.sheets.specs.Field.{values}
 use Rattle.opening.specs.LevelSums.{single}
 use Rattle.opening.proofs.FieldPlaces.{levelAt, columnValue, element-in, element-below, single-value, level-more, level-small}

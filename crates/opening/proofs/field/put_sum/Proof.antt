@@ -8,7 +8,7 @@ use native.Mathlib.Omega.{arith}
 use lib.Arith.{digits-lt}
 use lib.ListN.{getD}
 use borrow.Author.Needs.{needs}
-use Rattle.counting.specs.Generator.{from}
+use Rattle.finite.specs.Lists.{from}
 use Rattle.buffers.specs.Put.{Put}
 use Rattle.buffers.proofs.Puts.{put-length, put-before}
 use Rattle.layout.proofs.Rows.{values-none, values-next, values-room}

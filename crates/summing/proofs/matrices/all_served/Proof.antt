@@ -4,7 +4,7 @@ use native.Mathlib.Omega.{arith}
 use borrow.Author.Needs.{needs}
 use lib.Dec.{ltb}
 use lib.ListN.{length, getD}
-use Rattle.counting.specs.Generator.{AllBelow}
+use Rattle.finite.specs.Lists.{AllBelow}
 use Rattle.summing.proofs.Pieces.{PassSoFar, passing-none, passing-more, passing-all, passing-fails, positive-true, positive-false}
 use Rattle.summing.proofs.matrices.all_served.Statement.{statement}
 use Rattle.summing.proofs.matrices.all_served.Tie as tie

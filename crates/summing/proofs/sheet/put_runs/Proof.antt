@@ -4,8 +4,8 @@ use native.Mathlib.Omega.{arith}
 use borrow.Author.Needs.{needs}
 use lib.ListN.{length, take, drop}
 use lib.ListN.{length}
+use Rattle.finite.specs.Lists.{from}
 use Rattle.buffers.proofs.Puts.{put-join, put-length}
-use Rattle.counting.specs.Generator.{from}
 use Rattle.counting.specs.Table.{columns}
 use Rattle.ingredients.specs.Named.{tableIn}
 use Rattle.summing.specs.Summing.{summedRun, builtRun, Adjoins}

@@ -3,8 +3,8 @@ use Prim.Native.Nat.{_-_}
 use native.Mathlib.Omega.{arith}
 use borrow.Author.Needs.{needs}
 use lib.ListN.{length, getD, replicate, length-replicate}
+use Rattle.finite.specs.Lists.{AllBelow}
 use Rattle.buffers.proofs.Puts.{put-length}
-use Rattle.counting.specs.Generator.{AllBelow}
 use Rattle.summing.specs.Summing.{summedLevels}
 use Rattle.summing.proofs.Pieces.{Pieces, pieces-none, pieces-room, pieces-next, pieces-all}
 use Rattle.summing.proofs.sheet.put_summed_levels.Statement.{statement}

@@ -4,8 +4,8 @@ use Prim.Native.Nat.{_<_, _-_}
 use native.Mathlib.Omega.{arith}
 use borrow.Author.Needs.{needs}
 use lib.ListN.{length, getD}
+use Rattle.finite.specs.Lists.{AllBelow, from}
 use Rattle.buffers.proofs.Puts.{put-length}
-use Rattle.counting.specs.Generator.{AllBelow, from}
 use Rattle.summing.specs.Summing.{summedCells, summedRun}
 use Rattle.summing.proofs.Pieces.{Pieces, pieces-none, below-room, below-next, below-all}
 use Rattle.summing.proofs.Sums.{row-part, cells-length}

@@ -5,9 +5,9 @@ use Prim.Native.Nat.{_-_}
 use native.Mathlib.Omega.{arith}
 use borrow.Author.Needs.{needs}
 use lib.ListN.{length, length-map}
+use Rattle.finite.specs.Lists.{AllBelow}
+use Rattle.finite.proofs.Lists.{getD-map}
 use Rattle.buffers.proofs.Puts.{put-length}
-use Rattle.counting.specs.Generator.{AllBelow}
-use Rattle.counting.proofs.Lists.{getD-map}
 use Rattle.sheets.specs.Sum.{levelSum}
 use Rattle.summing.proofs.Pieces.{Front, front-none, front-room, front-next, front-all}
 use Rattle.summing.proofs.sheet.put_sums.Statement.{statement}

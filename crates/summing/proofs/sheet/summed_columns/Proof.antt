@@ -4,7 +4,7 @@ use Prim.Native.Nat.{_≤_, _*_, _-_}
 use native.Mathlib.Omega.{arith}
 use borrow.Author.Needs.{needs}
 use lib.ListN.{length, getD, replicate, length-replicate}
-use Rattle.counting.specs.Generator.{AllBelow}
+use Rattle.finite.specs.Lists.{AllBelow}
 use Rattle.summing.specs.Summing.{summedLevels}
 use Rattle.summing.proofs.Pieces.{Counted, counted-none, counted-next, counted-all}
 use Rattle.summing.proofs.sheet.summed_columns.Statement.{statement}

@@ -1,15 +1,16 @@
 -- Reading digits base s as one number is one to one: `digits` and `numeral` undo each other on lists of n digits and numbers below s ^ n.
 -- Assumes nothing.
 use mathlib.Core.Path.{_≡_, refl, sym, _∙_, ap, ap₂, subst}
-use mathlib.Core.List.{List, _∷_}
+use mathlib.Core.List.{List, _∷_, _++_}
 use Prim.Native.Nat.{ℕ, zero, suc, _+_, _*_, _/_, _%_, _^_, _<_}
-use native.Mathlib.Nat.{pow-zero, pow-succ', one-le-pow, mod-lt, mod-one, mod-eq-of-lt, mul-assoc, le-refl, mul-add-div-right, mul-add-mod-self-right, zero-div, zero-mod}
+use native.Mathlib.Nat.{zero-add, suc-add, add-comm, div-div-eq-div-mul, pow-zero, pow-succ', one-le-pow, mod-lt, mod-one, mod-eq-of-lt, mul-assoc, le-refl, mul-add-div-right, mul-add-mod-self-right, zero-div, zero-mod}
 use lib.Arith.{digits-lt, digits-div, mod-mul}
 use lib.Dec.{T, eqb, eqb→eq, eqb-refl}
 use lib.ListN.{length, replicate}
+use lib.Pow.{pow-add}
+use Rattle.finite.specs.Digits.{digits, numeral}
 use Rattle.finite.proofs.Tests.{agree}
-use Rattle.counting.specs.Digits.{digits, numeral}
-use Rattle.counting.proofs.Lists.{Below, none, more, same, same→eq, eq→same}
+use Rattle.finite.proofs.Lists.{Below, none, more, same, same→eq, eq→same}
 
 pub digits-length : (s n v : ℕ) → length (digits s n v) ≡ n
 unfolding digits
@@ -21,6 +22,13 @@ pub digits-zero : (s n : ℕ) → digits s n 0 ≡ replicate n 0
 unfolding digits
 digits-zero s zero = refl
 digits-zero s (suc n) = ap₂ _∷_ (ap (λ d. d % s) (zero-div (s ^ n)) ∙ zero-mod s) (digits-zero s n)
+
+-- the digits above the last n, and these
+pub digits-append : (s m n v : ℕ) → digits s (m + n) v ≡ digits s m (v / s ^ n) ++ digits s n v
+unfolding digits
+digits-append s zero n v = rw zero-add
+digits-append s (suc m) n v =
+    rw (suc-add, digits-append s m n v, div-div-eq-div-mul, ← pow-add s n m, add-comm n m)
 
 pub numeral-below : {s : ℕ} {xs : List ℕ} → Below s xs → numeral s xs < s ^ length xs
 unfolding numeral

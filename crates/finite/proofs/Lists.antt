@@ -9,8 +9,8 @@ use native.Mathlib.Nat.{zero-lt-suc, le-of-suc-le-suc, not-suc-le-zero, suc-inj,
 use native.Mathlib.Omega.{arith}
 use lib.Dec.{T, eqb, eqb→eq, eqb-refl}
 use lib.ListN.{length, getD, replicate}
+use Rattle.finite.specs.Lists.{AllBelow, from}
 use Rattle.finite.proofs.Tests.{T-and}
-use Rattle.counting.specs.Generator.{AllBelow, from}
 
 -- ---- all numbers of a list below n
 

@@ -10,7 +10,7 @@ use native.Mathlib.Omega.{arith}
 use lib.Arith.{digits-lt, digits-div, digits-mod}
 use lib.ListN.{getD, set, replicate, length-replicate, length-set}
 use lib.Seq.{getD-set-same, getD-set-other}
-use Rattle.counting.specs.Tabulated.{Tabulated}
+use Rattle.finite.specs.Tabulated.{Tabulated}
 
 pub tabulated-none : (f : ℕ → ℕ) → Tabulated f 0 (replicate 4096 0)
 tabulated-none f = record { places = length-replicate {A = ℕ} 4096 0; each = λ q h. absurd (omega arith) }
