@@ -20,17 +20,15 @@ use Rattle.finite.proofs.Fits.{run-end}
 use Rattle.finite.proofs.Lists.{Below, none, more, length-from}
 use Rattle.finite.proofs.Digits.{digits-length, digits-below, digits-append}
 use Rattle.galois.specs.Arithmetic.{fieldSize, fieldSum, fieldProduct}
-use Rattle.galois.proofs.Fields.{field}
-use Rattle.counting.specs.Generator.{Generator, combination}
+use Rattle.galois.specs.Combination.{combination}
+use Rattle.galois.proofs.Fields.{field, size-positive}
+use Rattle.counting.specs.Generator.{Generator}
 use Rattle.counting.specs.Combining.{combinationOnto, elements, combined, ElementsAt, BlocksIn, gridOf, blockColumns, rowCombination}
 use Rattle.counting.specs.GeneratorVerdict.{combinesToZero, dependence}
 use Rattle.counting.specs.declared.generator.Block.{Block}
 use Rattle.counting.specs.declared.generator.Combining.{Combining}
 
 -- ---- elements of the field
-pub size-positive : (s : ℕ) → T (fieldSize s) → 0 < s
-size-positive s t = field s t .group .sums .neutral-below
-
 pub sum-below : (s : ℕ) → T (fieldSize s) → {a b : ℕ} → a < s → b < s → fieldSum s a b < s
 sum-below s t ha hb = field s t .group .sums .closed ha hb
 

@@ -18,13 +18,14 @@ use Rattle.finite.proofs.Lists.{Below, none, more, all-below, each-below, below
 use Rattle.finite.proofs.Digits.{digits-zero, digits-numeral, numeral-below}
 use Rattle.galois.specs.Laws.{Field}
 use Rattle.galois.specs.Arithmetic.{fieldSum, fieldProduct}
+use Rattle.galois.specs.Combination.{combination}
 use Rattle.galois.proofs.Fields.{field}
+use Rattle.galois.proofs.FieldAlgebra.{zero-below, plus-zero, cancel-right, combination-below, zero-coefficients, combination-append, combination-opposite}
 use Rattle.counting.specs.Checkable.{CheckableGenerator}
-use Rattle.counting.specs.Generator.{Generator, generatorOf, width, ElementsInRange, factors, factorColumns, columnsOf, Increasing, combination, IndependentColumns, Independent}
+use Rattle.counting.specs.Generator.{Generator, generatorOf, width, ElementsInRange, factors, factorColumns, columnsOf, Increasing, IndependentColumns, Independent}
 use Rattle.counting.specs.GeneratorVerdict.{generatorVerdict}
 use Rattle.counting.specs.declared.verdict.GeneratorFinding.the-variants.{Passes}
 use Rattle.counting.specs.Combining.{blockColumns, factorBlock, rowCombination, combinationCode}
-use Rattle.counting.proofs.FieldAlgebra.{zero-below, plus-zero, cancel-right, combination-below, zero-coefficients, combination-append, combination-opposite}
 use Rattle.counting.proofs.Factors.{factor-below}
 use Rattle.counting.proofs.GeneratorVerdicts.{no-columns, generator-passes}
 

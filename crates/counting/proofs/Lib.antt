@@ -4,7 +4,6 @@ pub mod Tallies
 pub mod TableKeys
 pub mod TableVerdicts
 pub mod MatrixVerdicts
-pub mod FieldAlgebra
 pub mod Combinings
 pub mod Factors
 pub mod GeneratorVerdicts

@@ -8,7 +8,8 @@ use Rattle.finite.specs.Sum.{sum}
 use Rattle.finite.specs.Digits.{digits, horner}
 use Rattle.finite.specs.Lists.{from}
 use Rattle.galois.specs.Arithmetic.{fieldSize, fieldSum, fieldProduct}
-use Rattle.counting.specs.Generator.{Generator, combination}
+use Rattle.galois.specs.Combination.{combination}
+use Rattle.counting.specs.Generator.{Generator}
 use Rattle.counting.specs.declared.generator.Block.{Block}
 use Rattle.counting.specs.declared.generator.Combining.{Combining}
 use Rattle.counting.specs.declared.generator.Dependence.{Dependence}

@@ -5,9 +5,10 @@ use mathlib.Core.List.{List, [], _∷_, map}
 use Prim.Native.Nat.{ℕ, _+_, _*_, _^_, _<_}
 use lib.ListN.{length}
 use Rattle.finite.specs.Digits.{digits}
+use Rattle.galois.specs.Combination.{combination}
 use Rattle.counting.specs.Table.{Table, columns, levelsOf, times}
 use Rattle.counting.specs.Matrix.{Matrix, differences}
-use Rattle.counting.specs.Generator.{Generator, factors, columnsOf, combination, IndependentColumns}
+use Rattle.counting.specs.Generator.{Generator, factors, columnsOf, IndependentColumns}
 use Rattle.counting.specs.declared.verdict.DependenceFault.{DependenceFault}
 use Rattle.counting.specs.declared.verdict.DifferenceFault.{DifferenceFault}
 use Rattle.counting.specs.declared.verdict.TableFault.{TableFault}

@@ -5,6 +5,7 @@ use Prim.Native.Nat.{ℕ, _+_, _*_, _<_, min}
 use lib.ListN.{length, getD}
 use Rattle.finite.specs.Sum.{sum}
 use Rattle.finite.specs.Lists.{from, AllBelow}
+use Rattle.galois.specs.Combination.{combination}
 
 -- t coordinates over a field of s elements, the number of columns of each factor, and the field element in a row and a column, both from 0.
 -- The columns of factor 0 come first, then those of factor 1, and so on.
@@ -48,19 +49,13 @@ Increasing n (i ∷ j ∷ is) = (i < j) × Increasing n (j ∷ is)
 
 -- a field's sum and product
 module _ (plus times : ℕ → ℕ → ℕ) where
-  -- the sum of the products of coefficients and elements
-  unfoldable pub combination : List ℕ → List ℕ → ℕ
-  combination [] xs = 0
-  combination (k ∷ ks) [] = 0
-  combination (k ∷ ks) (x ∷ xs) = plus (times k x) (combination ks xs)
-
   -- no coefficients but all zeros combine the columns to zero
   unfoldable pub IndependentColumns : Generator → List ℕ → Type 0
   IndependentColumns G cs =
       (ks : List ℕ)
       → length ks ≡ length cs
       → AllBelow (G .size) ks
-      → ((r : ℕ) → r < G .coordinates → combination ks (map (G .entry r) cs) ≡ 0)
+      → ((r : ℕ) → r < G .coordinates → combination plus times ks (map (G .entry r) cs) ≡ 0)
       → AllBelow 1 ks
 
   -- Strength g: the columns of any g factors, or of all where there are fewer, are independent.

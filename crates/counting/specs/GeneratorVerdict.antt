@@ -9,7 +9,8 @@ use Rattle.finite.specs.Sum.{every}
 use Rattle.finite.specs.First.{first, firstPair}
 use Rattle.finite.specs.Digits.{digits}
 use Rattle.galois.specs.Arithmetic.{fieldSum, fieldProduct}
-use Rattle.counting.specs.Generator.{Generator, factors, columnsOf, combination}
+use Rattle.galois.specs.Combination.{combination}
+use Rattle.counting.specs.Generator.{Generator, factors, columnsOf}
 use Rattle.counting.specs.declared.verdict.DependenceFault.{DependenceFault}
 use Rattle.counting.specs.declared.verdict.GeneratorFinding.{GeneratorFinding}
 use Rattle.counting.specs.declared.verdict.GeneratorFinding.the-variants.{Passes, Fails}

@@ -2,7 +2,7 @@
 -- and a lemma turns what it tried into the record of laws. Assumes nothing.
 use mathlib.Core.Bool.{Bool, cond, _||_}
 use mathlib.Core.List.{List, [], _∷_, map}
-use Prim.Native.Nat.{ℕ, zero, suc}
+use Prim.Native.Nat.{ℕ, zero, suc, _<_}
 use native.Mathlib.Nat.{ne-of-gt}
 use lib.Dec.{T, eqb, ltb}
 use mir.Facts.{eqb-yes, ltb-yes}
@@ -92,3 +92,6 @@ all-lawful = tt
 pub field : (s : ℕ) → T (fieldSize s) → Field s (fieldSum s) (fieldProduct s)
 unfolding fieldSize lawful
 field s size = fromTests s (fieldSum s) (fieldProduct s) (among lawful fieldSizes all-lawful s size)
+
+pub size-positive : (s : ℕ) → T (fieldSize s) → 0 < s
+size-positive s size = field s size .group .sums .neutral-below

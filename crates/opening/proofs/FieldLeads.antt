@@ -13,9 +13,8 @@ use lib.Seq.{getD-take}
 use Rattle.finite.specs.Lists.{from}
 use Rattle.finite.proofs.Tabulated.{looked-up}
 use Rattle.galois.specs.Arithmetic.{fieldSize}
-use Rattle.counting.proofs.Combinings.{size-positive}
 use Rattle.counting.specs.Table.{Table, columns}
-use Rattle.galois.proofs.Fields.{field}
+use Rattle.galois.proofs.Fields.{field, size-positive}
 use Rattle.buffers.specs.Put.{Put}
 use Rattle.layout.specs.Bytes.{runOf}
 use Rattle.buffers.proofs.Puts.{put-front}

@@ -16,11 +16,11 @@ use Rattle.finite.proofs.Fits.{place-below}
 use Rattle.finite.proofs.Lists.{below-from, below-map, length-from}
 use Rattle.galois.specs.Arithmetic.{fieldSum, fieldProduct}
 use Rattle.galois.specs.Laws.{Field}
-use Rattle.galois.proofs.Fields.{field}
-use Rattle.counting.specs.Generator.{generatorOf, combination, width, ElementsInRange}
-use Rattle.counting.proofs.Combinings.{size-positive}
+use Rattle.galois.specs.Combination.{combination}
+use Rattle.galois.proofs.Fields.{field, size-positive}
+use Rattle.galois.proofs.FieldAlgebra.{combination-below}
+use Rattle.counting.specs.Generator.{generatorOf, width, ElementsInRange}
 use Rattle.sheets.specs.Field.{columnElements, values}
-use Rattle.counting.proofs.FieldAlgebra.{combination-below}
 use Rattle.sheets.proofs.FieldCount.{values-length, values-below}
 use Rattle.opening.specs.FieldPlaces.{GeneratorStands, ColumnsIn, generatorIn}
 use Rattle.opening.specs.LevelSums.{digitSums, single}

@@ -8,7 +8,8 @@ use native.Mathlib.Numerals.{add-one}
 use lib.ListN.{length-append}
 use Rattle.finite.specs.Digits.{numeral}
 use Rattle.finite.specs.Lists.{from}
-use Rattle.counting.specs.Generator.{Generator, combination}
+use Rattle.galois.specs.Combination.{combination}
+use Rattle.counting.specs.Generator.{Generator}
 use Rattle.sheets.specs.Field.{columnElements, values}
 use Rattle.sheets.proofs.FieldCount.{values-append}
 use Rattle.layout.proofs.Bytes.{from-next}

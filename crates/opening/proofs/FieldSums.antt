@@ -12,8 +12,8 @@ use Rattle.finite.specs.Lists.{from}
 use Rattle.finite.proofs.Digits.{digits-append, digits-length, digits-zero, digits-below, digits-low, digits-cons}
 use Rattle.finite.proofs.Lists.{Below, below-map, below-from, length-from}
 use Rattle.galois.specs.Laws.{Field}
-use Rattle.counting.specs.Generator.{combination}
-use Rattle.counting.proofs.FieldAlgebra.{zero-below, zero-plus, plus-zero, product-below, combination-below, combination-append, zero-coefficients}
+use Rattle.galois.specs.Combination.{combination}
+use Rattle.galois.proofs.FieldAlgebra.{zero-below, zero-plus, plus-zero, product-below, combination-below, combination-append, zero-coefficients}
 
 from-append : (a m k : ℕ) → from a (m + k) ≡ from a m ++ from (a + m) k
 unfolding from

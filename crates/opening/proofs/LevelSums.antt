@@ -12,7 +12,7 @@ use Rattle.finite.proofs.Tabulated.{tabulated-more}
 use Rattle.galois.specs.Arithmetic.{fieldSize, fieldSum, fieldProduct}
 use Rattle.galois.specs.Laws.{Field}
 use Rattle.galois.proofs.Fields.{field}
-use Rattle.counting.proofs.FieldAlgebra.{zero-below, zero-plus, sum-below}
+use Rattle.galois.proofs.FieldAlgebra.{zero-below, zero-plus, sum-below}
 use Rattle.opening.specs.LevelSums.{digitSums, SumsOf}
 
 module _ (s : ℕ) (size : T (fieldSize s)) where

@@ -19,8 +19,8 @@ use Rattle.finite.proofs.Counts.{count-ext, count-product, count-const}
 use Rattle.finite.proofs.Lists.{Below, none, more, below-map}
 use Rattle.finite.proofs.Digits.{digits-below, digits-cons}
 use Rattle.galois.specs.Laws.{Field}
-use Rattle.counting.specs.Generator.{combination}
-use Rattle.counting.proofs.FieldAlgebra.{zero-below, sum-below, product-below, zero-plus, plus-zero, plus-assoc, cancel-right, solution, solution-below, solved, combination-below, zero-elements}
+use Rattle.galois.specs.Combination.{combination}
+use Rattle.galois.proofs.FieldAlgebra.{zero-below, sum-below, product-below, zero-plus, plus-zero, plus-assoc, cancel-right, solution, solution-below, solved, combination-below, zero-elements}
 
 -- a count over the s ^ (n + 1) tuples, by the first coordinate
 count-first : (s n : ℕ) (f : ℕ → Bool) → count (s ^ suc n) f ≡ sum s (λ x. count (s ^ n) (λ r. f (x * s ^ n + r)))

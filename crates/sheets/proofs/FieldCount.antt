@@ -20,8 +20,9 @@ use Rattle.finite.proofs.Counts.{count-ext, count-all, count-exchange, count-on
 use Rattle.finite.proofs.Lists.{Below, each-below, all-below, all-zero, below-map, below-from, map-from, same, eq→same, same→eq, length-from}
 use Rattle.finite.proofs.Digits.{digits-length, digits-below, digits-zero, digits-injective}
 use Rattle.galois.specs.Laws.{Field}
-use Rattle.counting.specs.Generator.{Generator, ElementsInRange, width, combination, IndependentColumns}
-use Rattle.counting.proofs.FieldAlgebra.{zero-below, combination-below, zero-coefficients, combination-exchange}
+use Rattle.galois.specs.Combination.{combination}
+use Rattle.galois.proofs.FieldAlgebra.{zero-below, combination-below, zero-coefficients, combination-exchange}
+use Rattle.counting.specs.Generator.{Generator, ElementsInRange, width, IndependentColumns}
 use Rattle.sheets.specs.Field.{columnElements, values}
 use Rattle.sheets.proofs.FieldBalance.{count-equal, count-value}
 

@@ -8,8 +8,9 @@ use native.Mathlib.Nat.{suc-inj, suc-ne-zero}
 use lib.ListN.{length, replicate, length-replicate}
 use Rattle.finite.proofs.Lists.{Below, none, more, below-head, below-tail, each-below, all-below, below-append, below-map, below-replicate}
 use Rattle.galois.specs.Laws.{Field}
-use Rattle.counting.specs.Generator.{Generator, ElementsInRange, factors, width, columnsOf, combination, IndependentColumns, Independent}
-use Rattle.counting.proofs.FieldAlgebra.{zero-below, product-below, left-comm, combination-below, zero-coefficients}
+use Rattle.galois.specs.Combination.{combination}
+use Rattle.galois.proofs.FieldAlgebra.{zero-below, product-below, left-comm, combination-below, zero-coefficients}
+use Rattle.counting.specs.Generator.{Generator, ElementsInRange, factors, width, columnsOf, IndependentColumns, Independent}
 use Rattle.counting.proofs.Factors.{factor-below}
 use Rattle.sheets.specs.Lists.{Distinct}
 use Rattle.sheets.proofs.FieldWithin.{Picked, here, there, Within, nothing, pick, picked-below, increasing-below, around, within-columns}

@@ -9,9 +9,10 @@ use Rattle.finite.specs.First.{first, firstAfter, firstPair}
 use Rattle.finite.specs.Digits.{digits, numeral}
 use Rattle.finite.specs.Lists.{from}
 use Rattle.galois.specs.Arithmetic.{fieldSum, fieldProduct}
+use Rattle.galois.specs.Combination.{combination}
 use Rattle.counting.specs.Table.{Table, columns, tableOf, shows, times}
 use Rattle.counting.specs.Matrix.{matrixOf, difference, rowDifference, differences}
-use Rattle.counting.specs.Generator.{generatorOf, width, factorColumns, columnsOf, combination}
+use Rattle.counting.specs.Generator.{generatorOf, width, factorColumns, columnsOf}
 use Rattle.counting.specs.Verdict.{deviation, columnDeviation, pairDeviation, columnsFault, pairsFault, tableVerdict, differenceDeviation, matrixVerdict}
 use Rattle.counting.specs.GeneratorVerdict.{combinesToZero, dependence, generatorFault, generatorVerdict}
 use Rattle.house.specs.House.{houseTable, houseOf, house101}

@@ -3,7 +3,8 @@ use mathlib.Core.List.{List, map}
 use Prim.Native.Nat.{ℕ, _^_}
 use Rattle.finite.specs.Digits.{digits, numeral}
 use Rattle.finite.specs.Lists.{from}
-use Rattle.counting.specs.Generator.{Generator, combination, factorColumns}
+use Rattle.galois.specs.Combination.{combination}
+use Rattle.counting.specs.Generator.{Generator, factorColumns}
 use Rattle.counting.specs.Table.{Table}
 
 -- the t field elements of column c, first coordinate first

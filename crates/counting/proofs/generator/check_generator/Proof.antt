@@ -2,9 +2,9 @@
 -- Assumes nothing.
 use mathlib.Core.Path.{sym, _∙_, ap}
 use native.Mathlib.Omega.{arith}
+use Rattle.galois.proofs.Fields.{size-positive}
 use Rattle.counting.specs.Generator.{generatorOf, width}
 use Rattle.counting.specs.GeneratorVerdict.{generatorFinding, generatorVerdict}
-use Rattle.counting.proofs.Combinings.{size-positive}
 use Rattle.counting.proofs.Factors.{one-block, only-least, only-nothing}
 use Rattle.counting.proofs.GeneratorVerdicts.{fault-only, fault-pairs}
 use borrow.Author.Needs.{needs}

@@ -7,9 +7,9 @@ use native.Mathlib.Nat.{le-trans, le-antisymm, one-le-pow}
 use native.Mathlib.Omega.{arith}
 use lib.Dec.{lit≤}
 use lib.ListN.{length}
+use Rattle.galois.proofs.Fields.{size-positive}
 use Rattle.counting.specs.Combining.{combinationCode}
 use Rattle.counting.specs.Marks.{NewCodes}
-use Rattle.counting.proofs.Combinings.{size-positive}
 use Rattle.counting.proofs.Marks.{new-none, new-more}
 use borrow.Author.Needs.{needs}
 use Rattle.counting.proofs.generator.codes_are_new.Statement.{statement}

@@ -5,8 +5,9 @@ use Prim.Native.Nat.{_≤_, _<_}
 use native.Mathlib.Nat.{le-refl, le-antisymm, lt-trans, mod-lt}
 use native.Mathlib.Omega.{arith}
 use borrow.Author.Needs.{needs}
+use Rattle.galois.proofs.Fields.{size-positive}
 use Rattle.counting.specs.Combining.{combined}
-use Rattle.counting.proofs.Combinings.{combined-none, combined-more, size-positive, sum-below, product-below}
+use Rattle.counting.proofs.Combinings.{combined-none, combined-more, sum-below, product-below}
 use Rattle.counting.proofs.generator.combine.Statement.{statement}
 use Rattle.counting.proofs.generator.combine.Tie as tie
 

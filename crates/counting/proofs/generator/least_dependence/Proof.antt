@@ -9,9 +9,10 @@ use lib.Dec.{lit<, lit≤}
 use lib.ListN.{length}
 use Rattle.finite.proofs.Firsts.{between-more}
 use Rattle.galois.specs.Arithmetic.{fieldSum, fieldProduct}
+use Rattle.galois.proofs.Fields.{size-positive}
 use Rattle.counting.specs.Combining.{asDependence, gridOf, blockColumns}
 use Rattle.counting.specs.GeneratorVerdict.{combinesToZero}
-use Rattle.counting.proofs.Combinings.{size-positive, dependence-none, dependence-at, lists-many}
+use Rattle.counting.proofs.Combinings.{dependence-none, dependence-at, lists-many}
 use borrow.Author.Needs.{needs}
 use Rattle.counting.proofs.generator.least_dependence.Statement.{statement}
 use Rattle.counting.proofs.generator.least_dependence.Tie as tie

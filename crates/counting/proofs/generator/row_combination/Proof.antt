@@ -1,6 +1,7 @@
 -- `row_combination` meets its contract: the later block is combined first, and the earlier one onto it.
 -- Assumes nothing.
-use Rattle.counting.proofs.Combinings.{size-positive, combined-below, row-combined}
+use Rattle.galois.proofs.Fields.{size-positive}
+use Rattle.counting.proofs.Combinings.{combined-below, row-combined}
 use borrow.Author.Needs.{needs}
 use Rattle.counting.proofs.generator.row_combination.Statement.{statement}
 use Rattle.counting.proofs.generator.row_combination.Tie as tie

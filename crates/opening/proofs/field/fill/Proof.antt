@@ -4,7 +4,7 @@ use mathlib.Core.Path.{sym, _∙_, ap₂}
 use native.Mathlib.Nat.{le-trans}
 use lib.Dec.{lit≤}
 use borrow.Author.Needs.{needs}
-use Rattle.counting.proofs.Combinings.{size-positive}
+use Rattle.galois.proofs.Fields.{size-positive}
 use Rattle.sheets.specs.declared.answer.Answer.the-variants.{Filled}
 use Rattle.layout.specs.Step.{Left}
 use Rattle.layout.proofs.Rows.{put-holds}

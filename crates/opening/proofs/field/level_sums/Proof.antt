@@ -10,7 +10,7 @@ use borrow.Author.Needs.{needs}
 use mir.Val.{Fits}
 use mir.Syntax.{w8}
 use Rattle.galois.specs.Arithmetic.{fieldSum}
-use Rattle.counting.proofs.Combinings.{size-positive}
+use Rattle.galois.proofs.Fields.{size-positive}
 use Rattle.opening.specs.LevelSums.{SumsOf}
 use Rattle.opening.proofs.LevelSums.{sums-none, earlier-in, sums-more, sum-small}
 use Rattle.opening.proofs.field.level_sums.Statement.{statement}

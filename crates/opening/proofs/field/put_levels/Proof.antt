@@ -5,7 +5,7 @@ use Prim.Native.Nat.{_+_, _-_, _≤_}
 use native.Mathlib.Omega.{arith}
 use borrow.Author.Needs.{needs}
 use lib.ListN.{take}
-use Rattle.counting.proofs.Combinings.{size-positive}
+use Rattle.galois.proofs.Fields.{size-positive}
 use Rattle.buffers.specs.Put.{Put}
 use Rattle.buffers.proofs.Puts.{put-none, put-length}
 use Rattle.layout.proofs.Rows.{put-numbered, put-all}

@@ -7,9 +7,9 @@ use Prim.Native.Nat.{ℕ, zero, suc, _<_}
 use native.Mathlib.Nat.{pos-of-ne-zero, suc-inj, suc-ne-zero}
 use lib.ListN.{length, replicate}
 use Rattle.finite.proofs.Lists.{Below, none, more, below-map}
 use Rattle.galois.specs.Laws.{CommutativeMonoid, Field}
+use Rattle.galois.specs.Combination.{combination}
 use Rattle.galois.proofs.Derived.{add-subtract, subtract-add, times-zero}
-use Rattle.counting.specs.Generator.{combination}
 
 -- sums and products alike
 module _ {n neutral : ℕ} {_∗_ : ℕ → ℕ → ℕ} (M : CommutativeMonoid n neutral _∗_) where
