@@ -14,7 +14,7 @@ use lib.ListN.{length, getD, take, drop, length-map, length-append, take-append-
 use lib.Seq.{length-take-le}
 use Rattle.finite.specs.Digits.{digits, numeral, horner}
 use Rattle.finite.specs.Lists.{from}
-use Rattle.finite.proofs.Lists.{Below, none, more, all-below, each-below, below-append, below-map, all-zero, below-replicate, length-from}
+use Rattle.finite.proofs.Lists.{Below, none, more, all-below, each-below, below-append, below-map, all-zero, below-replicate, length-from, part-below}
 use Rattle.finite.proofs.Digits.{digits-zero, digits-numeral, numeral-below}
 use Rattle.galois.specs.Laws.{Field}
 use Rattle.galois.specs.Arithmetic.{fieldSum, fieldProduct}
@@ -26,7 +26,6 @@ use Rattle.counting.specs.Generator.{Generator, generatorOf, width, Elem
 use Rattle.counting.specs.GeneratorVerdict.{generatorVerdict}
 use Rattle.counting.specs.declared.verdict.GeneratorFinding.the-variants.{Passes}
 use Rattle.counting.specs.Combining.{blockColumns, factorBlock, rowCombination, combinationCode}
-use Rattle.counting.proofs.Factors.{factor-below}
 use Rattle.counting.proofs.GeneratorVerdicts.{no-columns, generator-passes}
 
 -- ---- equal combinations have equal codes
@@ -95,8 +94,8 @@ module _ {plus times : ℕ → ℕ → ℕ} (G : Generator) (F : Field (G .size)
     pub below : Below (G .size) ks
 
   elements-below : {i r : ℕ} → i < factors G → r < G .coordinates → Below (G .size) (map (G .entry r) (factorColumns (G .widths) i))
-  unfolding ElementsInRange
-  elements-below {r = r} hi hr = below-map (λ c h. entries r c hr h) (factor-below (G .widths) hi)
+  unfolding ElementsInRange width factorColumns
+  elements-below {r = r} hi hr = below-map (λ c h. entries r c hr h) (part-below (G .widths) hi)
 
   row-below : {i r : ℕ} {ks : List ℕ} → i < factors G → r < G .coordinates → Below (G .size) ks → row i ks r < G .size
   row-below hi hr b = combination-below F b (elements-below hi hr)

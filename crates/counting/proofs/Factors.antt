@@ -11,7 +11,6 @@ use lib.ListN.{length, getD}
 use Rattle.finite.specs.Sum.{sum}
 use Rattle.finite.specs.Lists.{from}
 use Rattle.finite.proofs.Sums.{sum-le}
-use Rattle.finite.proofs.Lists.{Below, below-from}
 use Rattle.galois.specs.Arithmetic.{fieldSum, fieldProduct}
 use Rattle.counting.specs.Checkable.{CheckableGenerator}
 use Rattle.counting.specs.Generator.{width, generatorOf, ElementsInRange, factorColumns, columnsOf}
@@ -33,10 +32,6 @@ nothing-none none e = refl
 nothing-none (some w) e = absurd (least-not-nothing w (sym e))
 
 -- ---- where the blocks lie
-pub factor-below : (us : List ℕ) {i : ℕ} → i < length us → Below (width us) (factorColumns us i)
-unfolding width factorColumns sum
-factor-below us {i} h = below-from (sum i (λ k. getD us k 0)) (getD us i 0) (sum-le (λ k. getD us k 0) h)
-
 module _ (entries : List ℕ) (t s : ℕ) (us : List ℕ) (ok : CheckableGenerator entries t s us) where
   factor-in : (i : ℕ) → i < length us → factorBlock us i .start + factorBlock us i .width ≤ width us
   unfolding factorBlock width sum

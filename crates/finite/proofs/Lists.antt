@@ -9,8 +9,10 @@ use native.Mathlib.Nat.{zero-lt-suc, le-of-suc-le-suc, not-suc-le-zero, suc-inj,
 use native.Mathlib.Omega.{arith}
 use lib.Dec.{T, eqb, eqb→eq, eqb-refl}
 use lib.ListN.{length, getD, replicate}
+use Rattle.finite.specs.Sum.{sum}
 use Rattle.finite.specs.Lists.{AllBelow, from}
 use Rattle.finite.proofs.Tests.{T-and}
+use Rattle.finite.proofs.Sums.{sum-le}
 
 -- ---- all numbers of a list below n
 
@@ -54,6 +56,11 @@ module _ {n : ℕ} where
   unfolding from
   below-from a zero h = none
   below-from a (suc k) h = more {x = a} (omega arith) (below-from (suc a) k (omega arith))
+
+-- the numbers of part i, where the parts of so many numbers each stand one after the other, are below the number of all
+pub part-below : (us : List ℕ) {i : ℕ} → i < length us → Below (sum (length us) (λ k. getD us k 0)) (from (sum i (λ k. getD us k 0)) (getD us i 0))
+unfolding sum
+part-below us {i} h = below-from (sum i (λ k. getD us k 0)) (getD us i 0) (sum-le (λ k. getD us k 0) h)
 
 -- numbers below 1 are zeros
 pub all-zero : {xs : List ℕ} → Below 1 xs → xs ≡ replicate (length xs) 0

@@ -6,12 +6,11 @@ use mathlib.Core.List.{List, _∷_, map}
 use Prim.Native.Nat.{ℕ, suc, _≤_, _<_}
 use native.Mathlib.Nat.{suc-inj, suc-ne-zero}
 use lib.ListN.{length, replicate, length-replicate}
-use Rattle.finite.proofs.Lists.{Below, none, more, below-head, below-tail, each-below, all-below, below-append, below-map, below-replicate}
+use Rattle.finite.proofs.Lists.{Below, none, more, below-head, below-tail, each-below, all-below, below-append, below-map, below-replicate, part-below}
 use Rattle.galois.specs.Laws.{Field}
 use Rattle.galois.specs.Combination.{combination}
 use Rattle.galois.proofs.FieldAlgebra.{zero-below, product-below, left-comm, combination-below, zero-coefficients}
-use Rattle.counting.specs.Generator.{Generator, ElementsInRange, factors, width, columnsOf, IndependentColumns, Independent}
-use Rattle.counting.proofs.Factors.{factor-below}
+use Rattle.counting.specs.Generator.{Generator, ElementsInRange, factors, width, factorColumns, columnsOf, IndependentColumns, Independent}
 use Rattle.sheets.specs.Lists.{Distinct}
 use Rattle.sheets.proofs.FieldWithin.{Picked, here, there, Within, nothing, pick, picked-below, increasing-below, around, within-columns}
 
@@ -81,9 +80,9 @@ module _ {s : ℕ} {_⊕_ _⊗_ : ℕ → ℕ → ℕ} (F : Field s _⊕_ _⊗_)
 -- ---- the columns of factors
 
 pub columns-below : (us : List ℕ) {is : List ℕ} → Below (length us) is → Below (width us) (columnsOf us is)
-unfolding columnsOf
+unfolding columnsOf width factorColumns
 columns-below us none = none
-columns-below us (more h b) = below-append (factor-below us h) (columns-below us b)
+columns-below us (more h b) = below-append (part-below us h) (columns-below us b)
 
 module _ {_⊕_ _⊗_ : ℕ → ℕ → ℕ} (G : Generator) (F : Field (G .size) _⊕_ _⊗_) (entries : ElementsInRange G) where
   independent-within : {cs ds : List ℕ} → Within cs ds → Below (width (G .widths)) ds

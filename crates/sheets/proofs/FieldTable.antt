@@ -12,13 +12,12 @@ use lib.Pow.{pow-add}
 use Rattle.finite.specs.Sum.{sum}
 use Rattle.finite.specs.Digits.{digits}
 use Rattle.finite.proofs.Counts.{count-ext}
-use Rattle.finite.proofs.Lists.{Below, none, more, each-below, below-append, length-from, getD-map, same, same-append}
+use Rattle.finite.proofs.Lists.{Below, none, more, each-below, below-append, length-from, getD-map, same, same-append, part-below}
 use Rattle.finite.proofs.Digits.{digits-length, digits-below, numeral-below, numeral-test}
 use Rattle.galois.specs.Laws.{Field}
 use Rattle.galois.proofs.FieldAlgebra.{zero-below}
-use Rattle.counting.specs.Generator.{Generator, ElementsInRange, factors, factorColumns, columnsOf, Independent}
+use Rattle.counting.specs.Generator.{Generator, ElementsInRange, factors, width, factorColumns, columnsOf, Independent}
 use Rattle.counting.specs.Table.{Table, columns, levelsOf, Setting, shows, times as timesIn, combinations, Apart, Settings, InRange, Even}
-use Rattle.counting.proofs.Factors.{factor-below}
 use Rattle.sheets.specs.Lists.{Distinct}
 use Rattle.sheets.specs.Field.{values, fieldTable}
 use Rattle.sheets.specs.Sheet.{OrthogonalArray}
@@ -118,7 +117,8 @@ module _ (_⊕_ _⊗_ : ℕ → ℕ → ℕ) (G : Generator) where
     factorValues r i = values _⊕_ _⊗_ G (digits s t r) (factorColumns us i)
 
     factorValues-below : {i : ℕ} (r : ℕ) → i < factors G → Below s (factorValues r i)
-    factorValues-below r h = values-below G F entries (digits-below (zero-below F) t r) (factor-below us h)
+    unfolding width factorColumns
+    factorValues-below r h = values-below G F entries (digits-below (zero-below F) t r) (part-below us h)
 
     factorValues-length : (r i : ℕ) → length (factorValues r i) ≡ getD us i 0
     factorValues-length r i = values-length _⊕_ _⊗_ G _ (factorColumns us i) ∙ factorColumns-length us i
