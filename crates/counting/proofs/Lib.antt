@@ -1,5 +1,4 @@
 pub mod Deviations
-pub mod PairOrder
 pub mod Tallies
 pub mod TableKeys
 pub mod TableVerdicts

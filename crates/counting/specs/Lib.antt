@@ -1,7 +1,6 @@
 pub mod Table
 pub mod Matrix
 pub mod Generator
-pub mod Pairs
 pub mod Verdict
 pub mod GeneratorVerdict
 pub mod Combining

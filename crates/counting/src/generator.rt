@@ -1,8 +1,8 @@
 // The check of a generator. One that passes, as nearly all do, is known by the combinations of each factor alone. Otherwise the coefficient
 // lists of every two factors, or of an only one, are tried in increasing order until one combines their columns to zero.
-use crate::pairs::IndexPair;
 use crate::verdict::DependenceFault;
 use crate::verdict::GeneratorFinding;
+use finite::pairs::IndexPair;
 use finite::power;
 ghost use mathlib.Core.Path.{_≡_};
 ghost use mathlib.Core.Bool.{true};

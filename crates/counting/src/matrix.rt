@@ -1,10 +1,10 @@
 // The check of a difference matrix: every difference of every two columns, counted over the rows.
-use crate::pairs::IndexPair;
 use crate::tally::difference_table;
 use crate::tally::differences_deviation;
 use crate::verdict::Deviation;
 use crate::verdict::DifferenceFault;
 use crate::verdict::MatrixFinding;
+use finite::pairs::IndexPair;
 ghost use mathlib.Core.Path.{_≡_};
 ghost use Rattle.counting.specs.Matrix.{matrixOf};
 ghost use Rattle.counting.specs.Checkable.{CheckableMatrix};

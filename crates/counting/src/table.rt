@@ -1,10 +1,10 @@
 // The check of a table: every level of every column, then every pair of levels of every two columns, counted over the runs.
-use crate::pairs::IndexPair;
 use crate::tally::levels_deviation;
 use crate::verdict::Deviation;
 use crate::verdict::TableFault;
 use crate::verdict::TableFinding;
 use crate::verdict::TableVerdict;
+use finite::pairs::IndexPair;
 ghost use mathlib.Core.Path.{_≡_};
 ghost use Prim.Native.Nat.{_<_};
 ghost use Rattle.counting.specs.Table.{tableOf};

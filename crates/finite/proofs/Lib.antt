@@ -6,3 +6,4 @@ pub mod Lists
 pub mod Digits
 pub mod Fits
 pub mod Tabulated
+pub mod PairOrder

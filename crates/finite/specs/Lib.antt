@@ -3,3 +3,4 @@ pub mod First
 pub mod Lists
 pub mod Digits
 pub mod Tabulated
+pub mod Pairs

@@ -1,5 +1,7 @@
 // Powers; and sums, counts and first finds over the numbers below n, lists of numbers, digits and tabulated values, for the proofs of the crates
 // above: their definitions are in specs/, their laws in proofs/.
+pub mod pairs; // pairs.rt: the pairs of the numbers below n, one after the other
+
 ghost use mathlib.Core.Path.{_≡_};
 ghost use Prim.Native.Nat.{_^_, _≤_, _<_};
 

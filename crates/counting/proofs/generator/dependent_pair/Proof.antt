@@ -3,11 +3,11 @@
 use mathlib.Core.Path.{sym, _∙_, ap}
 use native.Mathlib.Nat.{lt-trans}
 use lib.ListN.{length}
+use Rattle.finite.proofs.PairOrder.{Searched, searched-start, searched-next, searched-none, searched-at, left, left-falls}
 use Rattle.galois.specs.Arithmetic.{fieldSum, fieldProduct}
 use Rattle.counting.specs.Generator.{generatorOf}
 use Rattle.counting.specs.GeneratorVerdict.{pairDependence, generatorFinding}
 use Rattle.counting.proofs.Factors.{pair-blocks, pair-least, pair-nothing}
-use Rattle.counting.proofs.PairOrder.{Searched, searched-start, searched-next, searched-none, searched-at, left, left-falls}
 use borrow.Author.Needs.{needs}
 use Rattle.counting.proofs.generator.dependent_pair.Statement.{statement}
 use Rattle.counting.proofs.generator.dependent_pair.Tie as tie

@@ -5,11 +5,11 @@ use Prim.Native.Nat.{_*_}
 use native.Mathlib.Nat.{le-trans, lt-trans}
 use lib.Dec.{lit≤}
 use borrow.Author.Needs.{needs}
+use Rattle.finite.proofs.PairOrder.{Searched, searched-start, searched-next, searched-none, searched-at, left, left-falls}
 use Rattle.counting.specs.Matrix.{matrixOf}
 use Rattle.counting.specs.Tally.{Cleared, DifferencesOf}
 use Rattle.counting.specs.Verdict.{differenceFault, matrixFinding, matrixVerdict}
 use Rattle.counting.proofs.MatrixVerdicts.{difference-at, difference-nowhere}
-use Rattle.counting.proofs.PairOrder.{Searched, searched-start, searched-next, searched-none, searched-at, left, left-falls}
 use Rattle.counting.proofs.Tallies.{cleared-made}
 use Rattle.counting.proofs.matrix.check_matrix.Statement.{statement}
 use Rattle.counting.proofs.matrix.check_matrix.Tie as tie

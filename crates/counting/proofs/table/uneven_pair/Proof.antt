@@ -7,11 +7,11 @@ use native.Mathlib.Omega.{arith}
 use borrow.Author.Needs.{needs}
 use lib.ListN.{length}
 use Rattle.finite.proofs.Fits.{product-fits}
+use Rattle.finite.proofs.PairOrder.{Searched, searched-start, searched-next, searched-none, searched-at, left, left-falls}
 use Rattle.counting.specs.Table.{tableOf}
 use Rattle.counting.specs.Tally.{Cleared}
 use Rattle.counting.specs.Verdict.{pairFault, pairsFault, tableFinding}
 use Rattle.counting.proofs.Deviations.{at-some, nowhere-none}
-use Rattle.counting.proofs.PairOrder.{Searched, searched-start, searched-next, searched-none, searched-at, left, left-falls}
 use Rattle.counting.proofs.TableKeys.{pair-keyed, pair-deviation}
 use Rattle.counting.proofs.table.uneven_pair.Statement.{statement}
 use Rattle.counting.proofs.table.uneven_pair.Tie as tie

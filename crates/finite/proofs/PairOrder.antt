@@ -9,11 +9,11 @@ use native.Mathlib.Nat.{lt-trans, eq-or-lt-of-le}
 use native.Mathlib.Omega.{arith}
 use borrow.Author.Tests.{lt-ltb, le-ltb}
 use lib.Arith.{digits-lt}
 use Rattle.finite.specs.First.{firstPair}
+use Rattle.finite.specs.Pairs.{startPair, nextPair}
+use Rattle.finite.specs.declared.pairs.IndexPair.{IndexPair}
 use Rattle.finite.proofs.Firsts.{first-at, after-at, after-none, pair-none, between-more}
 use Rattle.finite.proofs.Fits.{run-more}
-use Rattle.counting.specs.Pairs.{startPair, nextPair}
-use Rattle.counting.specs.declared.pairs.IndexPair.{IndexPair}
 
 -- what is left of a search through the pairs of n falls with each pair
 abbrev pub left : ℕ → IndexPair → ℕ

@@ -2,7 +2,7 @@
 use mathlib.Core.Bool.{cond}
 use Prim.Native.Nat.{ℕ, _+_}
 use lib.Dec.{ltb}
-use Rattle.counting.specs.declared.pairs.IndexPair.{IndexPair}
+use Rattle.finite.specs.declared.pairs.IndexPair.{IndexPair}
 
 abbrev pub startPair : IndexPair
 startPair = record { first = 0; second = 1 }

@@ -1,7 +1,7 @@
 // Two columns or factors, counted from 0, the first before the second. They go 0-1, 0-2, .., then 1-2, and so on.
 ghost use mathlib.Core.Path.{_≡_};
 ghost use Prim.Native.Nat.{_<_};
-ghost use Rattle.counting.specs.Pairs.{startPair, nextPair};
+ghost use Rattle.finite.specs.Pairs.{startPair, nextPair};
 
 pub struct IndexPair {
     pub first: usize,

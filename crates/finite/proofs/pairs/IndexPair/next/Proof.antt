@@ -2,9 +2,9 @@
 -- Assumes nothing.
 use borrow.Author.Tests.{lt-ltb, le-ltb}
 use borrow.Author.Needs.{needs}
-use Rattle.counting.specs.Pairs.{nextPair}
-use Rattle.counting.proofs.pairs.IndexPair.next.Statement.{statement}
-use Rattle.counting.proofs.pairs.IndexPair.next.Tie as tie
+use Rattle.finite.specs.Pairs.{nextPair}
+use Rattle.finite.proofs.pairs.IndexPair.next.Statement.{statement}
+use Rattle.finite.proofs.pairs.IndexPair.next.Tie as tie
 
 add-if1 : tie.Need-add-if1
 add-if1 c = search needs
