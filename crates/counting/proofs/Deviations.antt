@@ -8,8 +8,7 @@ use Prim.Native.Nat.{ℕ, _*_, _<_}
 use native.Mathlib.Omega.{arith}
 use borrow.Author.Tests.{eq-eqb, ne-eqb, eqb-true, eqb-false}
 use Rattle.finite.proofs.Firsts.{first-ext, first-none, first-at, none-below, found-least}
-use Rattle.counting.specs.Verdict.{Counted, deviation, asDeviation, tableFinding}
-use Rattle.counting.specs.declared.verdict.Deviation.the-variants.{At, Nowhere}
+use Rattle.counting.specs.Verdict.{Counted, deviation, tableFinding}
 use Rattle.counting.specs.declared.verdict.TableFault.{TableFault}
 use Rattle.counting.specs.declared.verdict.TableFinding.the-variants.{Passes, Fails}
 
@@ -60,22 +59,6 @@ module _ (n N : ℕ) (timesOf : ℕ → ℕ) where
 pub deviation-ext : (n N : ℕ) {f g : ℕ → ℕ} → ((v : ℕ) → v < n → f v ≡ g v) → deviation n N f ≡ deviation n N g
 unfolding deviation
 deviation-ext n N e = first-ext n (λ v h. rw (e v h))
-
--- a value named is not none
-pub at-not-nowhere : (v t : ℕ) → At v t ≡ Nowhere → ⊥
-at-not-nowhere v t e = let z : _≡_ {A = ℕ} 0 1 = cc in omega arith
-
--- the enum says what the search found
-pub at-some : (o : Option Counted) (v t : ℕ) → At v t ≡ asDeviation o → o ≡ some (record { value = v; times = t })
-at-some none v t e = absurd (at-not-nowhere v t e)
-at-some (some x) v t e =
-    let p : v ≡ x .value = cc in
-    let q : t ≡ x .times = cc in
-    λ i. some (record { value = sym p i; times = sym q i })
-
-pub nowhere-none : (o : Option Counted) → Nowhere ≡ asDeviation o → o ≡ none
-nowhere-none none e = refl
-nowhere-none (some x) e = absurd (at-not-nowhere _ _ (sym e))
 
 pub fails-not-passes : (f : TableFault) → Fails f ≡ Passes → ⊥
 fails-not-passes f e = let z : _≡_ {A = ℕ} 0 1 = cc in omega arith

@@ -1,10 +1,4 @@
 pub mod Deviations
-pub mod Tallies
-pub mod TableKeys
 pub mod TableVerdicts
 pub mod MatrixVerdicts
-pub mod Combinings
-pub mod Factors
 pub mod GeneratorVerdicts
-pub mod Distinct
-pub mod Marks

@@ -7,20 +7,11 @@ use Prim.Native.Nat.{ℕ, _+_, _<_}
 use native.Mathlib.Omega.{arith}
 use Rattle.finite.proofs.Firsts.{pair-none, none-pair, found-pair}
 use Rattle.counting.specs.Matrix.{Matrix, DifferenceMatrix}
-use Rattle.counting.specs.Verdict.{Counted, asDeviation, differenceDeviation, differenceFault, matrixFinding, matrixVerdict}
+use Rattle.counting.specs.Verdict.{Counted, differenceDeviation, differenceFault, matrixFinding, matrixVerdict}
 use Rattle.counting.specs.Failures.{EvenDifference, EvenDifferences, FirstDifference}
-use Rattle.counting.specs.declared.verdict.Deviation.the-variants.{At, Nowhere}
 use Rattle.counting.specs.declared.verdict.DifferenceFault.{DifferenceFault}
 use Rattle.counting.specs.declared.verdict.MatrixFinding.the-variants.{Passes, Fails}
-use Rattle.counting.proofs.Deviations.{deviation-none, none-even, at-some, nowhere-none, some-lowest}
-
--- ---- what a count of two columns finds
-pub difference-at : (D : Matrix) (c d v t : ℕ) → At v t ≡ asDeviation (differenceDeviation D c d)
-    → differenceFault D c d ≡ some (record { first = c + 1; second = d + 1; difference = v; times = t })
-difference-at D c d v t e = ap (Option·map _) (at-some (differenceDeviation D c d) v t e)
-
-pub difference-nowhere : (D : Matrix) (c d : ℕ) → Nowhere ≡ asDeviation (differenceDeviation D c d) → differenceFault D c d ≡ none
-difference-nowhere D c d e = ap (Option·map _) (nowhere-none (differenceDeviation D c d) e)
+use Rattle.counting.proofs.Deviations.{deviation-none, none-even, some-lowest}
 
 -- ---- nothing is found exactly where every count is even
 differences-even : (D : Matrix) (c d : ℕ) → differenceFault D c d ≡ none → EvenDifferences D c d

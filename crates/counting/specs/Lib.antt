@@ -3,8 +3,5 @@ pub mod Matrix
 pub mod Generator
 pub mod Verdict
 pub mod GeneratorVerdict
-pub mod Combining
-pub mod Marks
-pub mod Tally
 pub mod Checkable
 pub mod Failures

@@ -10,8 +10,6 @@ use Rattle.counting.specs.Matrix.{Matrix, differences}
 use Rattle.counting.specs.declared.verdict.DifferenceFault.{DifferenceFault}
 use Rattle.counting.specs.declared.verdict.MatrixFinding.{MatrixFinding}
 use Rattle.counting.specs.declared.verdict.MatrixFinding.the-variants as MatrixFinding
-use Rattle.counting.specs.declared.verdict.Deviation.{Deviation}
-use Rattle.counting.specs.declared.verdict.Deviation.the-variants.{Nowhere, At}
 use Rattle.counting.specs.declared.verdict.TableFault.{TableFault}
 use Rattle.counting.specs.declared.verdict.TableFault.the-variants.{Column, Pair}
 use Rattle.counting.specs.declared.verdict.TableFinding.{TableFinding}
@@ -67,10 +65,6 @@ tableFinding (some fault) = Fails fault
 -- columns are tried before pairs
 unfoldable pub tableVerdict : Table → TableVerdict
 tableVerdict T = record { finding = tableFinding (columnsFault T orElse pairsFault T) }
-
-abbrev pub asDeviation : Option Counted → Deviation
-asDeviation none = Nowhere
-asDeviation (some x) = At (x .value) (x .times)
 
 -- the lowest difference of columns c and d that does not stand in exactly M ÷ p rows
 unfoldable pub differenceDeviation : Matrix → ℕ → ℕ → Option Counted

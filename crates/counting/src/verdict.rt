@@ -1,11 +1,5 @@
 // What the checks answer. Columns and factors are named from 1, levels and differences from 0; `times` is a number of runs.
 
-// The lowest value that does not stand in its share of the runs.
-pub enum Deviation {
-    Nowhere,
-    At { value: usize, times: usize },
-}
-
 // What is wrong with a table: a level of a column, or a pair of levels of two columns.
 pub enum TableFault {
     Column {

@@ -1,13 +1,13 @@
 // Checks an array and prints its name and what was found.
 use crate::digits::digit_values;
-use counting::generator::check_generator;
-use counting::matrix::check_matrix;
-use counting::table::check_table;
 use counting::verdict::GeneratorFinding;
 use counting::verdict::MatrixFinding;
 use counting::verdict::TableFault;
 use counting::verdict::TableFinding;
+use generator_check::check_generator;
 use libc::STDOUT_FILENO;
+use matrix_check::check_matrix;
+use table_check::check_table;
 ghost use Rattle.papers.specs.Written.{WrittenTable, WrittenMatrix, WrittenGenerator};
 
 // The table whose runs the digits of `text` are, one run after the other.

@@ -16,18 +16,18 @@ ghost use Rattle.ingredients.specs.Standing.{TableStands, MatrixStands, Generat
 ghost use Rattle.passing.specs.Passing.{Room, Copyable, passingOf, refusalAt, passingIn};
 use buffers::clear;
 use buffers::put_numbers;
-use counting::generator::check_generator;
-use counting::matrix::check_matrix;
-use counting::table::check_table;
 use counting::verdict::GeneratorFinding;
 use counting::verdict::MatrixFinding;
 use counting::verdict::TableFault;
 use counting::verdict::TableFinding;
 use counting::verdict::TableVerdict;
+use generator_check::check_generator;
+use matrix_check::check_matrix;
 use order::Located;
 use order::places::ingredient_at;
 use order::places::ingredient_count;
 use sheets::answer::Refusal;
+use table_check::check_table;
 
 // Whether all pass; if not, the refusal has the first failure of the first that does not.
 pub enum Passing {

@@ -1,0 +1,4 @@
+pub mod Combinings
+pub mod Factors
+pub mod Distinct
+pub mod Marks

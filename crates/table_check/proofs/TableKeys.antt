@@ -1,0 +1,85 @@
+-- The keys of a table's runs: a column's levels, and the numbers of the pairs of levels of two columns, each with a counter of its own.
+-- Assumes nothing.
+use mathlib.Core.Path.{_≡_, sym, _∙_, ap, ap₂}
+use mathlib.Core.Bool.{_&&_, and-true}
+use mathlib.Core.List.{List}
+use Prim.Native.Nat.{ℕ, _+_, _*_, _/_, _%_, _<_}
+use native.Mathlib.Nat.{mul-zero, zero-add, le-refl, lt-of-lt-of-le, mul-le-mul, div-add-mod'}
+use native.Mathlib.Omega.{arith}
+use lib.Arith.{digits-lt, digits-div, digits-mod}
+use lib.Dec.{eqb}
+use lib.ListN.{length, getD}
+use Rattle.finite.proofs.Tests.{eqb-and-agree}
+use Rattle.finite.proofs.Counts.{count-ext}
+use Rattle.counting.specs.Table.{Table, tableOf, InRange, shows, times}
+use Rattle.counting.specs.Checkable.{CheckableTable}
+use Rattle.counting.specs.Verdict.{columnDeviation, pairDeviation}
+use Rattle.counting.proofs.Deviations.{deviation-ext}
+use Rattle.tally.specs.Tally.{keysDeviation}
+use Rattle.table_check.specs.Keys.{Keyed, levelsKey}
+
+-- a number of a pair is that pair's alone
+pub pair-number : (x y t v : ℕ) → y < t → eqb (x * t + y) v ≡ (eqb x (v / t) && eqb y (v % t))
+pair-number x y t v h =
+    eqb-and-agree _ _ _ _ _ _
+    (λ e. (sym (digits-div x h) ∙ ap (λ z. z / t) e, sym (digits-mod x h) ∙ ap (λ z. z % t) e))
+    (λ p q. ap₂ (λ a b. a * t + b) p q ∙ div-add-mod' v t)
+
+module _ (cells levels : List ℕ) (runs : ℕ) (ok : CheckableTable cells levels runs) where
+  abbrev T : Table
+  T = tableOf cells levels runs
+
+  column-key : (c r : ℕ) → levelsKey cells (length levels) c 0 c r ≡ T .cell r c
+  unfolding levelsKey tableOf
+  column-key c r = rw (mul-zero, zero-add)
+
+  pub column-keyed : (c : ℕ) → c < length levels
+      → Keyed cells runs (length levels) c c (getD levels c 0) (levelsKey cells (length levels) c 0 c)
+  unfolding InRange tableOf
+  column-keyed c h =
+      record {
+        whole = ok .whole;
+        few = ok .few;
+        first-in = h;
+        second-in = h;
+        counters-enough = omega (arith, ok .levels-to c h);
+        keys-below = λ r l. rw (column-key c r) (ok .in-range r c l h);
+      }
+
+  pub column-deviation : (c : ℕ)
+      → keysDeviation (getD levels c 0) runs (levelsKey cells (length levels) c 0 c) ≡ columnDeviation T c
+  unfolding keysDeviation columnDeviation tableOf times shows
+  column-deviation c =
+      deviation-ext _ runs (λ v h. count-ext runs (λ r l. rw (column-key c r) (sym (and-true _))))
+
+  pub pair-keyed : (c d : ℕ) → c < length levels → d < length levels
+      → Keyed cells runs (length levels) c d (getD levels c 0 * getD levels d 0) (levelsKey cells (length levels) c (getD levels d 0) d)
+  unfolding InRange tableOf levelsKey
+  pair-keyed c d hc hd =
+      record {
+        whole = ok .whole;
+        few = ok .few;
+        first-in = hc;
+        second-in = hd;
+        counters-enough = mul-le-mul (ok .levels-to c hc) (ok .levels-to d hd);
+        keys-below = λ r l. digits-lt (ok .in-range r c l hc) (ok .in-range r d l hd);
+      }
+
+  pub pair-deviation : (c d : ℕ) → d < length levels
+      → keysDeviation (getD levels c 0 * getD levels d 0) runs (levelsKey cells (length levels) c (getD levels d 0) d) ≡ pairDeviation T c d
+  unfolding keysDeviation pairDeviation tableOf times shows levelsKey InRange
+  pair-deviation c d h =
+      deviation-ext _ runs (λ v l. count-ext runs (λ r k. rw (pair-number _ _ _ v (ok .in-range r d k h), and-true)))
+
+-- keys below n have their counters
+pub enough : {cells : List ℕ} {runs columns first second n : ℕ} {key : ℕ → ℕ} → Keyed cells runs columns first second n key
+    → Keyed cells runs columns first second 4096 key
+enough k =
+    record {
+      whole = k .whole;
+      few = k .few;
+      first-in = k .first-in;
+      second-in = k .second-in;
+      counters-enough = le-refl 4096;
+      keys-below = λ r l. lt-of-lt-of-le (k .keys-below r l) (k .counters-enough);
+    }

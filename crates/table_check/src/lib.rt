@@ -1,0 +1,86 @@
+// The check of a table: every level of every column, then every pair of levels of every two columns, counted over the runs.
+mod levels; // levels.rt: the levels of a column, or of two, counted over the runs
+
+use counting::verdict::TableFault;
+use counting::verdict::TableFinding;
+use counting::verdict::TableVerdict;
+use finite::pairs::IndexPair;
+use levels::levels_deviation;
+use tally::Deviation;
+ghost use mathlib.Core.Path.{_≡_};
+ghost use Prim.Native.Nat.{_<_};
+ghost use Rattle.counting.specs.Table.{tableOf};
+ghost use Rattle.counting.specs.Checkable.{CheckableTable};
+ghost use Rattle.counting.specs.Verdict.{tableFinding, columnsFault, pairsFault, tableVerdict};
+ghost use Rattle.tally.specs.Tally.{Cleared};
+
+// The verdict on the table whose runs lie one after the other in `cells`.
+pub fn check_table(cells: &[u8], levels: &[u8], runs: usize) -> TableVerdict
+    requires { ⌜ CheckableTable (now cells) (now levels) runs ⌝ }
+    ensures { λ r. ⌜ r ≡ tableVerdict (tableOf (now (cells .entry)) (now (levels .entry)) runs) ⌝ }
+{
+    let mut counters = [0u16; 4096];
+    let finding = uneven_column(cells, levels, runs, &mut counters);
+    match finding {
+        TableFinding::Fails(fault) => TableVerdict {
+            finding: TableFinding::Fails(fault),
+        },
+        TableFinding::Passes => TableVerdict {
+            finding: uneven_pair(cells, levels, runs, &mut counters),
+        },
+    }
+}
+
+// The first column with an uneven level.
+fn uneven_column(cells: &[u8], levels: &[u8], runs: usize, counters: &mut [u16]) -> TableFinding
+    requires { ⌜ CheckableTable (now cells) (now levels) runs ⌝ }
+    requires { ⌜ Cleared (now counters) ⌝ }
+    ensures { λ r. ⌜ r ≡ tableFinding (columnsFault (tableOf (now (cells .entry)) (now (levels .entry)) runs)) ⌝ }
+    ensures { λ r. ⌜ (r ≡ TableFinding.Passes → Cleared (now (counters .exit))) ⌝ }
+{
+    let mut column = 0;
+    while column < levels.len() {
+        let s = levels[column] as usize;
+        match levels_deviation(cells, runs, levels.len(), column, 0, column, s, counters) {
+            Deviation::At { value, times } => {
+                return TableFinding::Fails(TableFault::Column {
+                    column: column + 1,
+                    level: value,
+                    times,
+                });
+            }
+            Deviation::Nowhere => {}
+        }
+        column += 1;
+    }
+    TableFinding::Passes
+}
+
+// The first two columns with an uneven pair of levels.
+fn uneven_pair(cells: &[u8], levels: &[u8], runs: usize, counters: &mut [u16]) -> TableFinding
+    requires { ⌜ CheckableTable (now cells) (now levels) runs ⌝ }
+    requires { ⌜ Cleared (now counters) ⌝ }
+    ensures { λ r. ⌜ r ≡ tableFinding (pairsFault (tableOf (now (cells .entry)) (now (levels .entry)) runs)) ⌝ }
+{
+    let mut pair = IndexPair::start();
+    while pair.second < levels.len() {
+        let first = pair.first;
+        let second = pair.second;
+        let s = levels[first] as usize;
+        let t = levels[second] as usize;
+        match levels_deviation(cells, runs, levels.len(), first, t, second, s * t, counters) {
+            Deviation::At { value, times } => {
+                return TableFinding::Fails(TableFault::Pair {
+                    first: first + 1,
+                    second: second + 1,
+                    first_level: value / t,
+                    second_level: value % t,
+                    times,
+                });
+            }
+            Deviation::Nowhere => {}
+        }
+        pair = pair.next(levels.len());
+    }
+    TableFinding::Passes
+}
