@@ -17,10 +17,10 @@ use Rattle.order.specs.Order.{Order, Step, TAKE, FIELD, SUM, MERGE, SPLIT, Step
 use Rattle.order.specs.Reader.{when}
 use Rattle.order.specs.Answers.{kindOf}
 use Rattle.order.specs.Grammar.{readOrder}
-use Rattle.order.specs.Places.{stepAt, stepIn, stepCount, operandsOf}
-use Rattle.order.specs.declared.Placed.the-variants.{Step as StepAt, Missing}
 use Rattle.order.proofs.OrderLaw.{reads-iff}
-use Rattle.order.proofs.Stands.{step-described}
+use Rattle.places.specs.Places.{stepAt, stepIn, stepCount, operandsOf}
+use Rattle.places.specs.declared.Placed.the-variants.{Step as StepAt, Missing}
+use Rattle.places.proofs.Stands.{step-described}
 use Rattle.sheets.specs.Sheet.{LevelsAtMost, Sound, SmallEnough, Agree}
 use Rattle.sheets.specs.Steps.{Outcome, filled, refused, proceed, provided, opening, operation, sized, firstStep, laterStep, laterSteps, allSteps}
 use Rattle.sheets.specs.declared.answer.Refusal.{Refusal}

@@ -8,19 +8,19 @@ use native.Mathlib.Nat.{mod-lt}
 use native.Mathlib.Omega.{arith}
 use lib.Arith.{digits-lt}
 use lib.ListN.{length, take, drop, getElem?, length-append}
+use Rattle.places.specs.Places.{ingredientAt, ingredientIn}
+use Rattle.places.proofs.Stands.{ingredient-stands, ingredient-described, widths-stand}
+use Rattle.entry_range.specs.Range.{EntriesInRange}
 use Rattle.buffers.specs.Put.{Bytes}
 use Rattle.counting.specs.Matrix.{matrixOf, EntriesInRange as MatrixInRange}
 use Rattle.counting.specs.Generator.{width, generatorOf, ElementsInRange}
 use Rattle.order.specs.Order.{Ingredient, table, matrix, generator, Order, total, Between, Width, IngredientLimits, writtenIngredient}
 use Rattle.order.specs.Grammar.{readOrder, Reads}
 use Rattle.order.specs.Answers.{located}
-use Rattle.order.specs.Range.{EntriesInRange}
-use Rattle.order.specs.Places.{ingredientAt, ingredientIn}
 use Rattle.order.specs.declared.Located.{Located}
 use Rattle.order.specs.declared.Located.the-variants.{Table as TableAt, Matrix as MatrixAt, Generator as GeneratorAt, Missing}
 use Rattle.order.proofs.Segment.{Segment, segment-fits}
 use Rattle.order.proofs.OrderLaw.{reads-iff}
-use Rattle.order.proofs.Stands.{ingredient-stands, ingredient-described, widths-stand}
 use Rattle.sheets.proofs.Ingredients.{InBounds, all-at, width-total}
 use Rattle.ingredients.specs.Standing.{TableStands, MatrixStands, GeneratorStands}
 use Rattle.ingredients.proofs.Parts.{part-length, part-at, part-bytes, part-all}

@@ -5,6 +5,7 @@ use mathlib.Core.Option.{Option, none, some}
 use Prim.Native.Nat.{ℕ, _+_, _*_, _≤_}
 use lib.Dec.{leb}
 use lib.ListN.{length, take, drop}
+use Rattle.places.specs.Places.{ingredientAt}
 use Rattle.buffers.specs.Put.{Bytes}
 use Rattle.counting.specs.Table.{Table, tableOf}
 use Rattle.counting.specs.Matrix.{Matrix, matrixOf}
@@ -12,7 +13,6 @@ use Rattle.counting.specs.Generator.{Generator, generatorOf}
 use Rattle.house.specs.House.{HouseNumber, houseOf}
 use Rattle.order.specs.Order.{Order}
 use Rattle.order.specs.Reader.{Parsed}
-use Rattle.order.specs.Places.{ingredientAt}
 use Rattle.order.specs.declared.Located.{Located}
 use Rattle.order.specs.declared.Located.the-variants.{Table as TableAt, Matrix as MatrixAt, Generator as GeneratorAt, Missing as NothingAt}
 use Rattle.ingredients.specs.declared.named.NamedTable.{NamedTable}

@@ -5,7 +5,7 @@ ghost use Rattle.counting.specs.Table.{columns, levelsOf};
 ghost use Rattle.order.specs.Grammar.{readOrder};
 ghost use Rattle.ingredients.specs.Named.{namedTable, tableIn, Legible};
 use order::Located;
-use order::places::ingredient_at;
+use places::ingredient_at;
 
 pub enum NamedTable {
     Own {

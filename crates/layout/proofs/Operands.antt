@@ -13,11 +13,11 @@ use Rattle.counting.specs.Table.{Table}
 use Rattle.order.specs.Order.{Order, Step, TAKE, FIELD, SUM, MERGE, SPLIT, IngredientNumber, StepLimits, writtenStep}
 use Rattle.order.specs.Grammar.{readOrder}
 use Rattle.order.specs.Answers.{kindOf}
-use Rattle.order.specs.Places.{stepAt, operandsOf, stepIn}
-use Rattle.order.specs.declared.Placed.the-variants.{Step as StepAt, Missing as NoStep}
 use Rattle.order.proofs.Segment.{Segment, segment-in}
 use Rattle.order.proofs.OrderLaw.{reads-iff}
-use Rattle.order.proofs.Stands.{step-stands, step-described}
+use Rattle.places.specs.Places.{stepAt, operandsOf, stepIn}
+use Rattle.places.specs.declared.Placed.the-variants.{Step as StepAt, Missing as NoStep}
+use Rattle.places.proofs.Stands.{step-stands, step-described}
 use Rattle.sheets.specs.Ingredients.{tableNamed}
 use Rattle.sheets.specs.Steps.{Outcome, firstStep, laterStep}
 use Rattle.ingredients.specs.Named.{namedTable, tableIn, Legible, someTable}

@@ -13,11 +13,11 @@ use Rattle.order.proofs.Located.{the-type}
 use Rattle.order.specs.Order.{Ingredient, generator, Width, IngredientLimits, writtenIngredient}
 use Rattle.order.specs.Grammar.{readOrder}
 use Rattle.order.specs.Answers.{located}
-use Rattle.order.specs.Places.{ingredientAt, ingredientIn}
 use Rattle.order.specs.declared.Located.{Located}
 use Rattle.order.specs.declared.Located.the-variants.{Table as TableAt, Matrix as MatrixAt, Generator as GeneratorIs, Missing}
 use Rattle.order.proofs.Segment.{Segment, segment-fits}
-use Rattle.order.proofs.Stands.{ingredient-stands, ingredient-described}
+use Rattle.places.specs.Places.{ingredientAt, ingredientIn}
+use Rattle.places.proofs.Stands.{ingredient-stands, ingredient-described}
 use Rattle.sheets.specs.Ingredients.{asGenerator, generatorNamed}
 use Rattle.sheets.specs.Sheet.{SmallEnough}
 use Rattle.sheets.specs.Steps.{filled, refused, provided, fieldStep, opening, sized, firstStep}

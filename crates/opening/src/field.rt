@@ -16,7 +16,7 @@ ghost use Rattle.opening.specs.LevelSums.{SumsOf, WidthsTo, Sums, single
 use buffers::put_byte;
 use finite::power;
 use order::Located;
-use order::places::ingredient_at;
+use places::ingredient_at;
 use sheets::answer::Answer;
 use sheets::answer::Refusal;
 

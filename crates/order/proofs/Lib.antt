@@ -10,10 +10,3 @@ pub mod Powers
 pub mod Bodies
 pub mod Stages
 pub mod Whole
-pub mod Failing
-pub mod Rows
-pub mod Ranges
-pub mod Parts
-pub mod InRange
-pub mod Lookups
-pub mod Stands

@@ -2,6 +2,3 @@ pub mod Order
 pub mod Reader
 pub mod Grammar
 pub mod Answers
-pub mod Range
-pub mod Search
-pub mod Places

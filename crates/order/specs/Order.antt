@@ -12,6 +12,11 @@ pub data Ingredient : Type 0 where
   matrix : (rows columns p : ℕ) (entries : List ℕ) → Ingredient
   generator : (t s : ℕ) (widths entries : List ℕ) → Ingredient
 
+abbrev pub entriesOf : Ingredient → List ℕ
+entriesOf (table rows levels entries) = entries
+entriesOf (matrix rows columns p entries) = entries
+entriesOf (generator t s widths entries) = entries
+
 -- A step, by the names of 01: its numbers are ingredients (TAKE, FIELD, SUM, the second of SPLIT) and columns (MERGE, the first of SPLIT).
 pub data Step : Type 0 where
   TAKE : (i : ℕ) → Step

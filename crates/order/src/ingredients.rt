@@ -109,7 +109,7 @@ fn kind_body(list: &[u16], from: Cursor, kind: usize, rows: usize, columns: usiz
 }
 
 // The ingredient at the cursor.
-pub(crate) fn ingredient(list: &[u16], c: Cursor) -> Spot
+pub fn ingredient(list: &[u16], c: Cursor) -> Spot
     ensures { λ r. ⌜ r ≡ spotOf (c .at + 3) (readIngredient (now (list .entry)) (c .at)) ⌝ }
 {
     match number(list, c, 1, 3) {
@@ -128,7 +128,7 @@ pub(crate) fn ingredient(list: &[u16], c: Cursor) -> Spot
 }
 
 // n ingredients.
-pub(crate) fn ingredients(list: &[u16], start: Cursor, n: usize) -> Walk
+pub fn ingredients(list: &[u16], start: Cursor, n: usize) -> Walk
     ensures { λ r. ⌜ r ≡ walkOf (times n readIngredient (now (list .entry)) (start .at)) ⌝ }
 {
     let mut c = start;
@@ -146,7 +146,7 @@ pub(crate) fn ingredients(list: &[u16], start: Cursor, n: usize) -> Walk
 }
 
 // How many ingredients, and they.
-pub(crate) fn counted_ingredients(list: &[u16]) -> Walk
+pub fn counted_ingredients(list: &[u16]) -> Walk
     ensures { λ r. ⌜ r ≡ walkOf (counted 0 32 readIngredient (now (list .entry)) 0) ⌝ }
 {
     match number(list, Cursor { at: 0 }, 0, 32) {

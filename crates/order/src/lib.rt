@@ -1,32 +1,27 @@
-// Reads an order: a list of 16-bit numbers (document 01, "The order"; questions 2 and 3).
-mod ingredients; // ingredients.rt: an ingredient, with the places where its numbers start
-mod numbers; // numbers.rt: single numbers and series of them
-pub mod places; // places.rt: look-ups of single ingredients and steps
-mod range; // range.rt: the first entry out of range
-mod steps; // steps.rt: a step, with the place where its operands start
+// Reads an order: a list of 16-bit numbers (document 01, "The order"; question 2).
+pub mod ingredients; // ingredients.rt: an ingredient, with the places where its numbers start
+pub mod numbers; // numbers.rt: single numbers and series of them
+pub mod steps; // steps.rt: a step, with the place where its operands start
 
 ghost use mathlib.Core.Path.{_≡_};
 ghost use Rattle.order.specs.Grammar.{readOrder};
 ghost use Rattle.order.specs.Answers.{readingOf};
-ghost use Rattle.order.specs.Range.{rangeOf};
 use ingredients::counted_ingredients;
-use places::ingredients_start;
-use range::scan;
 use steps::counted_steps;
 
 // A place in the list.
-struct Cursor {
-    at: usize,
+pub struct Cursor {
+    pub at: usize,
 }
 
 // A number that is allowed, with the place after it, or the place where the list is refused.
-enum Number {
+pub enum Number {
     Is { value: usize, next: Cursor },
     Refused { place: usize },
 }
 
 // The place after what was read, or the place where the list is refused.
-enum Walk {
+pub enum Walk {
     On { next: Cursor },
     Refused { place: usize },
 }
@@ -59,13 +54,13 @@ pub enum Located {
 }
 
 // An ingredient that was read, with the place after it, or the place where the list is refused.
-enum Spot {
+pub enum Spot {
     Found { what: Located, next: Cursor },
     Refused { place: usize },
 }
 
 // A step that was read: its kind, the place where its operands start and the place after it; or the place where the list is refused.
-enum Stage {
+pub enum Stage {
     Found {
         kind: usize,
         operands_at: usize,
@@ -76,25 +71,10 @@ enum Stage {
     },
 }
 
-// A step of the list: its kind, and the place where its operands start.
-pub enum Placed {
-    Step { kind: usize, operands_at: usize },
-    // There is no such step.
-    Missing,
-}
-
 // Whether the list reads as an order (question 2), and if not, where it is refused.
 pub enum Reading {
     Reads,
     Refused { place: usize },
-}
-
-// Whether every entry is below its levels, p or s (question 3), and if not, where the first stands that is not.
-pub enum Entries {
-    InRange,
-    OutOfRange { place: usize },
-    // The list does not read, so the question is not asked.
-    Unread,
 }
 
 // Question 2: does the list read to its exact end?
@@ -117,15 +97,5 @@ pub fn read(list: &[u16]) -> Reading
             Walk::Refused { place } => Reading::Refused { place },
         },
         Walk::Refused { place } => Reading::Refused { place },
-    }
-}
-
-// Question 3: is every entry below its levels, p or s?
-pub fn first_out_of_range(list: &[u16]) -> Entries
-    ensures { λ r. ⌜ r ≡ rangeOf (readOrder (now (list .entry))) ⌝ }
-{
-    match ingredients_start(list) {
-        Number::Is { value: q, next } => scan(list, next, q),
-        Number::Refused { place: _ } => Entries::Unread,
     }
 }

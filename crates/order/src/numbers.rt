@@ -49,7 +49,7 @@ fn within(x: usize, low: usize, high: usize) -> bool
 }
 
 // A number from low to high.
-pub(crate) fn number(list: &[u16], c: Cursor, low: usize, high: usize) -> Number
+pub fn number(list: &[u16], c: Cursor, low: usize, high: usize) -> Number
     ensures { λ r. ⌜ r ≡ numberOf (allowed (between low high) (now (list .entry)) (c .at)) ⌝ }
 {
     accept(list, c, within(peek(list, c), low, high))

@@ -79,7 +79,7 @@ fn operands(list: &[u16], c: Cursor, kind: usize) -> Walk
 }
 
 // The step at the cursor.
-pub(crate) fn step(list: &[u16], c: Cursor) -> Stage
+pub fn step(list: &[u16], c: Cursor) -> Stage
     ensures { λ r. ⌜ r ≡ stageOf (c .at + 1) (readStep (now (list .entry)) (c .at)) ⌝ }
 {
     match number(list, c, 1, 5) {
@@ -96,7 +96,7 @@ pub(crate) fn step(list: &[u16], c: Cursor) -> Stage
 }
 
 // n steps.
-pub(crate) fn steps(list: &[u16], start: Cursor, n: usize) -> Walk
+pub fn steps(list: &[u16], start: Cursor, n: usize) -> Walk
     ensures { λ r. ⌜ r ≡ walkOf (times n readStep (now (list .entry)) (start .at)) ⌝ }
 {
     let mut c = start;

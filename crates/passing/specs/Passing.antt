@@ -4,11 +4,11 @@ use mathlib.Core.List.{List}
 use mathlib.Core.Option.{Option, none, some, bind}
 use Prim.Native.Nat.{ℕ, _+_, _≤_}
 use lib.ListN.{length, take, drop, replicate}
+use Rattle.places.specs.Places.{ingredientAt, ingredientIn}
 use Rattle.buffers.specs.Put.{Bytes}
 use Rattle.order.specs.Order.{Order}
 use Rattle.order.specs.Reader.{Parsed, value, refused as unread}
 use Rattle.order.specs.Grammar.{readOrder}
-use Rattle.order.specs.Places.{ingredientAt, ingredientIn}
 use Rattle.sheets.specs.Outcome.{ingredientRefusal, ingredientsRefusal}
 use Rattle.sheets.specs.declared.answer.Refusal.{Refusal}
 use Rattle.passing.specs.declared.Passing.{Passing}

@@ -3,12 +3,12 @@
 ghost use mathlib.Core.Path.{_≡_};
 ghost use Prim.Native.Nat.{_≤_};
 ghost use lib.ListN.{length, take, drop, replicate};
+ghost use Rattle.entry_range.specs.Range.{rangeOf};
+ghost use Rattle.entry_range.specs.declared.Entries.the-variants.{InRange};
 ghost use Rattle.buffers.specs.Put.{Put};
 ghost use Rattle.counting.specs.Verdict.{tableVerdict, matrixVerdict};
 ghost use Rattle.counting.specs.GeneratorVerdict.{generatorVerdict};
 ghost use Rattle.order.specs.Grammar.{readOrder};
-ghost use Rattle.order.specs.Range.{rangeOf};
-ghost use Rattle.order.specs.declared.Entries.the-variants.{InRange};
 ghost use Rattle.sheets.specs.Outcome.{tableRefusal, matrixRefusal, generatorRefusal};
 ghost use Rattle.ingredients.specs.Named.{tableIn, matrixIn, generatorIn};
 ghost use Rattle.ingredients.specs.declared.named.NamedTable.the-variants.{Own};
@@ -24,8 +24,8 @@ use counting::verdict::TableVerdict;
 use generator_check::check_generator;
 use matrix_check::check_matrix;
 use order::Located;
-use order::places::ingredient_at;
-use order::places::ingredient_count;
+use places::ingredient_at;
+use places::ingredient_count;
 use sheets::answer::Refusal;
 use table_check::check_table;
 

@@ -26,8 +26,8 @@ use Rattle.counting.specs.Matrix.{Matrix, matrixOf, EntriesInRange as MatrixInR
 use Rattle.counting.specs.Generator.{Generator, factors, generatorOf, width, ElementsInRange}
 use Rattle.house.specs.House.{house101, house102, house103, house104, houseOf, houseTable}
 use Rattle.house.proofs.Passing.{house-passes, house-even, house-number}
-use Rattle.order.specs.Order.{Ingredient, table, matrix, generator, Order, total, All, Between, FieldSize, Width, IngredientLimits, WithinLimits}
-use Rattle.order.specs.Range.{entriesOf, bound, EntriesInRange}
+use Rattle.order.specs.Order.{Ingredient, table, matrix, generator, Order, total, All, Between, FieldSize, Width, IngredientLimits, WithinLimits, entriesOf}
+use Rattle.entry_range.specs.Range.{bound, EntriesInRange}
 use Rattle.sheets.specs.Lists.{allOf}
 use Rattle.sheets.specs.Sheet.{LevelsAtMost, Sound}
 use Rattle.sheets.specs.Sum.{PassingMatrix}

@@ -24,13 +24,13 @@ use Rattle.counting.specs.declared.verdict.GeneratorFinding.the-variants as Gen
 use Rattle.counting.proofs.TableVerdicts.{table-passes}
 use Rattle.counting.proofs.MatrixVerdicts.{matrix-passes}
 use Rattle.counting.proofs.GeneratorVerdicts.{generator-passes}
-use Rattle.order.specs.Order.{Ingredient, table, matrix, generator, Order, All, IngredientLimits, writtenIngredient}
+use Rattle.order.specs.Order.{Ingredient, table, matrix, generator, Order, All, IngredientLimits, writtenIngredient, entriesOf}
 use Rattle.order.specs.Reader.{Parsed, value, refused as unread, when, continue}
 use Rattle.order.specs.Grammar.{atEnd, readParts, readOrder}
 use Rattle.order.specs.Answers.{entriesFrom}
-use Rattle.order.specs.Range.{entriesOf, bound, firstFailing, ingredientRange, orElse as earlier, ingredientsRange}
-use Rattle.order.specs.declared.Entries.{Entries}
-use Rattle.order.specs.declared.Entries.the-variants.{InRange, OutOfRange, Unread}
+use Rattle.entry_range.specs.Range.{bound, firstFailing, ingredientRange, orElse as earlier, ingredientsRange}
+use Rattle.entry_range.specs.declared.Entries.{Entries}
+use Rattle.entry_range.specs.declared.Entries.the-variants.{InRange, OutOfRange, Unread}
 use Rattle.sheets.specs.Outcome.{rangeRefusal, tableRefusal, matrixRefusal, generatorRefusal, ingredientRefusal, ingredientsRefusal}
 use Rattle.sheets.specs.Fillable.{MeetsDefinition}
 

@@ -19,9 +19,9 @@ use Rattle.finite.proofs.Tests.{T-and, T-eqb, eqb-sym}
 use Rattle.galois.specs.Arithmetic.{member}
 use Rattle.counting.specs.Matrix.{Matrix, matrixOf}
 use Rattle.order.specs.Grammar.{readOrder}
-use Rattle.order.specs.Places.{ingredientAt}
 use Rattle.order.specs.declared.Located.{Located}
 use Rattle.order.specs.declared.Located.the-variants.{Table as TableAt, Matrix as MatrixAt, Generator as GeneratorAt, Missing as NothingAt}
+use Rattle.places.specs.Places.{ingredientAt}
 use Rattle.sheets.specs.Lists.{Distinct, allOf, allDifferent}
 use Rattle.sheets.specs.Sum.{modulusOf, serving}
 use Rattle.sheets.proofs.Lists.{allOf-mem, allDifferent-distinct, distinct-append, mem-member, member-mem}

@@ -15,10 +15,10 @@ use Rattle.counting.specs.Matrix.{Matrix, matrixOf}
 use Rattle.counting.specs.Table.{Table, columns}
 use Rattle.order.specs.Order.{SUM, All, Between, IngredientNumber}
 use Rattle.order.specs.Grammar.{readOrder}
-use Rattle.order.specs.Places.{ingredientAt}
 use Rattle.order.specs.declared.Located.{Located}
 use Rattle.order.specs.declared.Located.the-variants.{Table as TableAt, Matrix as MatrixAt, Generator as GeneratorAt, Missing as NothingAt}
 use Rattle.order.proofs.Segment.{part-left, part-right, number-is, segment-fits}
+use Rattle.places.specs.Places.{ingredientAt}
 use Rattle.sheets.specs.Lists.{allOf}
 use Rattle.sheets.specs.Ingredients.{matrixNamed, matricesNamed, adjoinedNamed}
 use Rattle.sheets.specs.Steps.{Outcome, sum, provided, operation, operate, laterStep}

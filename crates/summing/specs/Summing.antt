@@ -13,9 +13,9 @@ use Rattle.galois.specs.Arithmetic.{member}
 use Rattle.counting.specs.Matrix.{Matrix, matrixOf}
 use Rattle.counting.specs.Table.{Table, columns, tableOf, InRange}
 use Rattle.order.specs.Grammar.{readOrder}
-use Rattle.order.specs.Places.{ingredientAt}
 use Rattle.order.specs.declared.Located.{Located}
 use Rattle.order.specs.declared.Located.the-variants.{Table as TableAt, Matrix as MatrixAt, Generator as GeneratorAt, Missing as NothingAt}
+use Rattle.places.specs.Places.{ingredientAt}
 use Rattle.sheets.specs.Lists.{allOf, allDifferent}
 use Rattle.sheets.specs.Sum.{levelSum, modulusOf, serving}
 use Rattle.ingredients.specs.Named.{tableIn}

@@ -7,13 +7,13 @@ ghost use lib.Dec.{ltb};
 ghost use lib.ListN.{length, getD};
 ghost use Rattle.finite.specs.Lists.{AllBelow};
 ghost use Rattle.order.specs.Grammar.{readOrder};
-ghost use Rattle.order.specs.Places.{ingredientAt};
+ghost use Rattle.places.specs.Places.{ingredientAt};
 ghost use Rattle.sheets.specs.Lists.{allOf};
 ghost use Rattle.layout.specs.Bytes.{zeros};
 ghost use Rattle.layout.specs.Step.{Readable};
 ghost use Rattle.summing.specs.Summing.{matrixPlace, matrixAt, matricesAt, fitTogether, Serves};
 use order::Located;
-use order::places::ingredient_at;
+use places::ingredient_at;
 
 // A matrix of the list: its sizes, and the place where its entries start. One with no rows stands for none.
 pub(crate) struct MatrixPlace {

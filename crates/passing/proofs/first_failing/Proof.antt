@@ -7,7 +7,7 @@ use native.Mathlib.Omega.{arith}
 use denote.Ref.{now}
 use Rattle.finite.specs.First.{_orElse_}
 use Rattle.order.specs.Grammar.{readOrder}
-use Rattle.order.specs.Places.{ingredientCount}
+use Rattle.places.specs.Places.{ingredientCount}
 use Rattle.passing.specs.Passing.{passingOf, refusalAt, passingIn}
 use Rattle.passing.proofs.Questions.{readable, restOf, rest-all, rest-next, rest-none, failing-first, passing-first}
 use borrow.Author.Needs.{needs}

@@ -4,7 +4,7 @@ use mathlib.Core.Path.{_≡_, sym, _∙_}
 use native.Mathlib.Omega.{arith}
 use lib.ListN.{getD}
 use Rattle.order.specs.Grammar.{readOrder}
-use Rattle.order.specs.Places.{ingredientAt}
+use Rattle.places.specs.Places.{ingredientAt}
 use Rattle.layout.specs.Step.{Left}
 use Rattle.opening.specs.FieldPlaces.{GeneratorStands}
 use Rattle.opening.specs.declared.field.GeneratorAt.{GeneratorAt}

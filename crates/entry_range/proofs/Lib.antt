@@ -1,0 +1,4 @@
+pub mod Failing
+pub mod Rows
+pub mod Ranges
+pub mod InRange
