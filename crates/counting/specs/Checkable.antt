@@ -6,7 +6,7 @@ use mathlib.Core.List.{List}
 use lib.ListN.{length, getD}
 use Rattle.counting.specs.Table.{tableOf, InRange}
 use Rattle.counting.specs.Generator.{width, generatorOf, ElementsInRange}
-use Rattle.counting.specs.Matrix.{matrixOf, EntriesInRange}
+use Rattle.counting.specs.Matrix.{matrixOf, MatrixInRange}
 
 -- the bytes hold the runs of a table
 pub record CheckableTable (cells levels : List ℕ) (runs : ℕ) : Type 0 where
@@ -22,7 +22,7 @@ pub record CheckableMatrix (entries : List ℕ) (rows columns p : ℕ) : Type 0 
   pub few : rows ≤ 512
   pub modulus-from : 2 ≤ p
   pub modulus-to : p ≤ 64
-  pub in-range : EntriesInRange (matrixOf entries rows columns p)
+  pub in-range : MatrixInRange (matrixOf entries rows columns p)
 
 -- the bytes hold the rows of a generator
 pub record CheckableGenerator (entries : List ℕ) (t s : ℕ) (widths : List ℕ) : Type 0 where

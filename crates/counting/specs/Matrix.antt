@@ -31,8 +31,8 @@ unfoldable pub differences : Matrix → ℕ → ℕ → ℕ → ℕ
 differences D c d v = count (D .rows) (λ r. eqb (rowDifference D c d r) v)
 
 -- every entry is one of 0 to p - 1
-unfoldable pub EntriesInRange : Matrix → Type 0
-EntriesInRange D = (r c : ℕ) → r < D .rows → c < D .columns → D .entry r c < D .modulus
+unfoldable pub MatrixInRange : Matrix → Type 0
+MatrixInRange D = (r c : ℕ) → r < D .rows → c < D .columns → D .entry r c < D .modulus
 
 -- For every two columns the differences, first minus second, take each value exactly M ÷ p times. One column always passes.
 unfoldable pub DifferenceMatrix : Matrix → Type 0

@@ -22,9 +22,9 @@ fieldSize s = member s fieldSizes
 -- A polynomial is the list of its coefficients, that of the lowest power first: a + bw + cw² is a, b, c.
 
 -- the polynomial that an element stands for, its n digits base p: where p is 2 and n is 3, a + 2b + 4c stands for a, b, c
-abbrev pub digits : ℕ → ℕ → ℕ → List ℕ
-digits p zero x = []
-digits p (suc n) x = x % p ∷ digits p n (x / p)
+abbrev pub polynomialOf : ℕ → ℕ → ℕ → List ℕ
+polynomialOf p zero x = []
+polynomialOf p (suc n) x = x % p ∷ polynomialOf p n (x / p)
 
 -- the element that stands for a polynomial
 abbrev pub element : ℕ → List ℕ → ℕ
@@ -66,12 +66,12 @@ ruleOf s =
 abbrev pub sumBy : Rule → ℕ → ℕ → ℕ → ℕ
 sumBy prime s a b = (a + b) % s
 sumBy (extension p power) s a b =
-    element p (polynomialSum p (digits p (length power) a) (digits p (length power) b))
+    element p (polynomialSum p (polynomialOf p (length power) a) (polynomialOf p (length power) b))
 
 abbrev pub productBy : Rule → ℕ → ℕ → ℕ → ℕ
 productBy prime s a b = (a * b) % s
 productBy (extension p power) s a b =
-    element p (polynomialProduct p power (digits p (length power) a) (digits p (length power) b))
+    element p (polynomialProduct p power (polynomialOf p (length power) a) (polynomialOf p (length power) b))
 
 -- the sum of a and b in the field of s elements
 unfoldable pub fieldSum : ℕ → ℕ → ℕ → ℕ

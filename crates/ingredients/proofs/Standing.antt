@@ -12,9 +12,9 @@ use Rattle.places.specs.Places.{ingredientAt, ingredientIn}
 use Rattle.places.proofs.Stands.{ingredient-stands, ingredient-described, widths-stand}
 use Rattle.entry_range.specs.Range.{EntriesInRange}
 use Rattle.buffers.specs.Put.{Bytes}
-use Rattle.counting.specs.Matrix.{matrixOf, EntriesInRange as MatrixInRange}
+use Rattle.counting.specs.Matrix.{matrixOf, MatrixInRange}
 use Rattle.counting.specs.Generator.{width, generatorOf, ElementsInRange}
-use Rattle.order.specs.Order.{Ingredient, table, matrix, generator, Order, total, Between, Width, IngredientLimits, writtenIngredient}
+use Rattle.order.specs.Order.{Ingredient, table, matrix, generator, Order, total, Between, FactorWidth, IngredientLimits, writtenIngredient}
 use Rattle.order.specs.Grammar.{readOrder, Reads}
 use Rattle.order.specs.Answers.{located}
 use Rattle.order.specs.declared.Located.{Located}
@@ -116,7 +116,7 @@ module _ (list : List ℕ) (o : Order) (reads : Reads list o) where
           widths-within = within .0;
           entries-within = within .1;
           width-total = within .2;
-          width-limits = part-all list widthsAt n (within .0) (Width s) (known .0 .3);
+          width-limits = part-all list widthsAt n (within .0) (FactorWidth s) (known .0 .3);
           entry-below = λ q h. rw (part-at list entriesAt (t * w) (within .1) q h) at (known .1 q (rw (part-length list entriesAt (t * w) (within .1)) h));
         }
 

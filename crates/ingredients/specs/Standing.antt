@@ -4,7 +4,7 @@ use mathlib.Core.Path.{_≡_}
 use mathlib.Core.List.{List}
 use Prim.Native.Nat.{ℕ, _+_, _*_, _%_, _≤_, _<_}
 use lib.ListN.{length, getD, take, drop}
-use Rattle.order.specs.Order.{total, Between, FieldSize, Width}
+use Rattle.order.specs.Order.{total, Between, GeneratorField, FactorWidth}
 
 -- a table: its level counts, one for each column, and its entries run by run
 pub record TableStands (list : List ℕ) (rows columns levelsAt entriesAt : ℕ) : Type 0 where
@@ -30,9 +30,9 @@ pub record GeneratorStands (list : List ℕ) (t n s widthsAt width entriesAt : �
   pub short : length list ≤ 32768
   pub coordinates-limits : Between 1 9 t
   pub factors-limits : Between 1 128 n
-  pub size-limits : FieldSize t s
+  pub size-limits : GeneratorField t s
   pub widths-within : widthsAt + n ≤ length list
   pub entries-within : entriesAt + t * width ≤ length list
   pub width-total : width ≡ total (take n (drop widthsAt list))
-  pub width-limits : (i : ℕ) → i < n → Width s (getD list (widthsAt + i) 0)
+  pub width-limits : (i : ℕ) → i < n → FactorWidth s (getD list (widthsAt + i) 0)
   pub entry-below : (q : ℕ) → q < t * width → getD list (entriesAt + q) 0 < s

@@ -19,7 +19,7 @@ use Rattle.buffers.specs.Put.{Put}
 use Rattle.layout.specs.Bytes.{runOf}
 use Rattle.buffers.proofs.Puts.{put-front}
 use Rattle.layout.proofs.Bytes.{map-below, pieces-length, pieces-at, run-length, run-at}
-use Rattle.opening.specs.FieldPlaces.{GeneratorStands}
+use Rattle.opening.specs.FieldPlaces.{FieldStands}
 use Rattle.opening.specs.LevelSums.{digitSums, WidthsTo, Sums, single, Leads, RunsBefore, SumsStand, runSum}
 use Rattle.opening.specs.declared.field.GeneratorAt.{GeneratorAt}
 use Rattle.opening.specs.declared.field.Leading.{Leading}
@@ -97,7 +97,7 @@ module _ (g : GeneratorAt) (size : T (fieldSize (g .s))) where
 
 -- ---- the cells of the sheet
 
-module _ {list : List ℕ} {g : GeneratorAt} (known : GeneratorStands list g) where
+module _ {list : List ℕ} {g : GeneratorAt} (known : FieldStands list g) where
   cell-below : (r c : ℕ) → c < g .n → sheetOf list g .cell r c < g .s ^ widthAt list g c
   cell-below r c h =
       rw (sheet-cell known r c h) (level-below known r (columnsBefore list g c) (widthAt list g c) (factor-columns known c h .within))

@@ -10,7 +10,7 @@ use lib.ListN.{getD, take, drop, getElem?, length-append}
 use denote.Enum.Declared.{tagOf}
 use types.Run.{OneOf}
 use Rattle.order.proofs.Located.{the-type}
-use Rattle.order.specs.Order.{Ingredient, generator, Width, IngredientLimits, writtenIngredient}
+use Rattle.order.specs.Order.{Ingredient, generator, FactorWidth, IngredientLimits, writtenIngredient}
 use Rattle.order.specs.Grammar.{readOrder}
 use Rattle.order.specs.Answers.{located}
 use Rattle.order.specs.declared.Located.{Located}
@@ -26,7 +26,7 @@ use Rattle.sheets.proofs.Carried.{filled-sized}
 use Rattle.sheets.proofs.Ingredients.{InBounds, all-at, all-getD, width-total, field-size, elements-in-range}
 use Rattle.ingredients.proofs.NamedLaws.{listed-at}
 use Rattle.layout.specs.Step.{Readable, Stands, firstIn}
-use Rattle.opening.specs.FieldPlaces.{GeneratorStands, widthsIn, generatorIn}
+use Rattle.opening.specs.FieldPlaces.{FieldStands, widthsIn, fieldGenerator}
 use Rattle.opening.specs.declared.field.GeneratorAt.{GeneratorAt}
 use Rattle.layout.proofs.Operands.{list-short, operands-limits, first-in}
 use Rattle.opening.proofs.FieldSheet.{sheetOf, sheet-runs, sheet-columns}
@@ -54,8 +54,8 @@ module _ {list : List ℕ} (readable : Readable list) (k : ℕ) (g : GeneratorAt
   here = sym (ingredient-described list o reads k) ∙ ap (ingredientIn list) found
 
   stands-so : (place after : ℕ) → ingredientAt (readOrder list) (suc k) ≡ located (place + 3) (generatorFrom list g)
-      → IngredientLimits (generatorFrom list g) → Segment list place (writtenIngredient (generatorFrom list g)) after → GeneratorStands list g
-  unfolding generatorIn
+      → IngredientLimits (generatorFrom list g) → Segment list place (writtenIngredient (generatorFrom list g)) after → FieldStands list g
+  unfolding fieldGenerator
   stands-so place after same limits s =
       let ws = widthsIn list g in
       let es = take (g .t * g .width) (drop (g .«entries_at») list) in
@@ -72,11 +72,11 @@ module _ {list : List ℕ} (readable : Readable list) (k : ℕ) (g : GeneratorAt
         widths-in = omega (arith, places .0, places .1, ends, length-append ws es);
         entries-in = omega (arith, places .3, ends, length-append ws es, limits .4, ap (λ n. g .t * n) (places .2));
         row = width-total ws ∙ sym (places .2);
-        powers = λ i h. all-getD (Width (g .s)) ws (limits .3) i 0 (omega (arith, places .0)) .1;
+        powers = λ i h. all-getD (FactorWidth (g .s)) ws (limits .3) i 0 (omega (arith, places .0)) .1;
         elements = elements-in-range (g .t) (g .s) ws es limits (all-at InBounds (o .ingredients) in-range k here);
       }
 
-  generator-stands : GeneratorStands list g
+  generator-stands : FieldStands list g
   generator-stands = ingredient-stands list o reads k (generatorFrom list g) here stands-so
 
 -- ---- what the step comes to
@@ -86,10 +86,10 @@ pub field-number : {list : List ℕ} {at : ℕ} → Readable list → Stands lis
 field-number readable stands = ⊎-elim (λ b. b .0) (λ b. omega arith) (operands-limits readable stands)
 
 pub field-generator : {list : List ℕ} {at : ℕ} → Readable list → Stands list 2 at
-    → (g : GeneratorAt) → ingredientAt (readOrder list) (getD list at 0) ≡ placesOf g → GeneratorStands list g
+    → (g : GeneratorAt) → ingredientAt (readOrder list) (getD list at 0) ≡ placesOf g → FieldStands list g
 field-generator {list} {at} readable stands g = named (getD list at 0) (field-number readable stands)
   where
-    named : (i : ℕ) → 1 ≤ i → ingredientAt (readOrder list) i ≡ placesOf g → GeneratorStands list g
+    named : (i : ℕ) → 1 ≤ i → ingredientAt (readOrder list) i ≡ placesOf g → FieldStands list g
     named zero h e = absurd (omega arith)
     named (suc k) h e = generator-stands readable k g e
 
@@ -126,14 +126,14 @@ field-refused {list} readable stands found e other =
     field-outcome readable stands ∙ rw (← e, no-generator list found other)
 
 -- question 8: the sheet of a generator is never too large
-generator-small : {list : List ℕ} {g : GeneratorAt} → GeneratorStands list g → SmallEnough (sheetOf list g)
+generator-small : {list : List ℕ} {g : GeneratorAt} → FieldStands list g → SmallEnough (sheetOf list g)
 generator-small known =
     record { runs-most = rw (sheet-runs known) (known .runs-most); columns-most = rw (sheet-columns known) (known .factors-most) }
 
 pub field-filled : {list : List ℕ} {at : ℕ} → Readable list → Stands list 2 at
     → (g : GeneratorAt) → ingredientAt (readOrder list) (getD list at 0) ≡ placesOf g
     → firstIn list 2 at ≡ filled (sheetOf list g)
-unfolding provided bind asGenerator generatorIn widthsIn
+unfolding provided bind asGenerator fieldGenerator widthsIn
 field-filled {list} readable stands g e =
     field-outcome readable stands
     ∙ rw e (filled-sized 1 (sheetOf list g) (generator-small (field-generator readable stands g e)))

@@ -22,7 +22,7 @@ use Rattle.galois.proofs.FieldAlgebra.{combination-below}
 use Rattle.counting.specs.Generator.{generatorOf, width, ElementsInRange}
 use Rattle.sheets.specs.Field.{columnElements, values}
 use Rattle.sheets.proofs.FieldCount.{values-length, values-below}
-use Rattle.opening.specs.FieldPlaces.{GeneratorStands, ColumnsIn, generatorIn}
+use Rattle.opening.specs.FieldPlaces.{FieldStands, ColumnsIn, fieldGenerator}
 use Rattle.opening.specs.LevelSums.{digitSums, single}
 use Rattle.opening.specs.declared.field.GeneratorAt.{GeneratorAt}
 use Rattle.opening.proofs.FieldRuns.{level-next}
@@ -35,30 +35,30 @@ elementPlace g r c = g .«entries_at» + r * g .width + c
 -- the tuple of a run times a column
 abbrev pub columnValue : List ℕ → GeneratorAt → ℕ → ℕ → ℕ
 columnValue list g run c =
-    combination (fieldSum (g .s)) (fieldProduct (g .s)) (digits (g .s) (g .t) run) (columnElements (generatorIn list g) c)
+    combination (fieldSum (g .s)) (fieldProduct (g .s)) (digits (g .s) (g .t) run) (columnElements (fieldGenerator list g) c)
 
 -- the values of the first i columns from `column` on, read as one number
 abbrev pub levelAt : List ℕ → GeneratorAt → ℕ → ℕ → ℕ → ℕ
 levelAt list g run column i =
-    numeral (g .s) (values (fieldSum (g .s)) (fieldProduct (g .s)) (generatorIn list g) (digits (g .s) (g .t) run) (from column i))
+    numeral (g .s) (values (fieldSum (g .s)) (fieldProduct (g .s)) (fieldGenerator list g) (digits (g .s) (g .t) run) (from column i))
 
 digit-sums-next : (s i x y : ℕ) → digitSums s (i + 1) x y ≡ digitSums s i (x / s) (y / s) * s + fieldSum s (x % s) (y % s)
 unfolding digitSums
 digit-sums-next s i x y = rw add-one
 
-module _ {list : List ℕ} {g : GeneratorAt} (known : GeneratorStands list g) where
+module _ {list : List ℕ} {g : GeneratorAt} (known : FieldStands list g) where
   pub element-in : (r c : ℕ) → r < g .t → c < g .width → elementPlace g r c < length list
   element-in r c hr hc = omega (arith, place-below hr hc (le-refl (g .t * g .width)), known .entries-in)
 
-  element-at : (r c : ℕ) → r < g .t → c < g .width → generatorIn list g .entry r c ≡ getD list (elementPlace g r c) 0
-  unfolding generatorIn generatorOf
+  element-at : (r c : ℕ) → r < g .t → c < g .width → fieldGenerator list g .entry r c ≡ getD list (elementPlace g r c) 0
+  unfolding fieldGenerator generatorOf
   element-at r c hr hc =
       rw (known .row, add-assoc)
       (getD-take (g .t * g .width) (drop (g .«entries_at») list) (r * g .width + c) 0 (place-below hr hc (le-refl (g .t * g .width)))
       ∙ getD-drop (g .«entries_at») list (r * g .width + c) 0)
 
-  entry-below : (c : ℕ) → c < g .width → (r : ℕ) → r < g .t → generatorIn list g .entry r c < g .s
-  unfolding generatorIn generatorOf ElementsInRange
+  entry-below : (c : ℕ) → c < g .width → (r : ℕ) → r < g .t → fieldGenerator list g .entry r c < g .s
+  unfolding fieldGenerator generatorOf ElementsInRange
   entry-below c hc r hr = known .elements r c hr (rw (known .row) hc)
 
   pub element-below : (r c : ℕ) → r < g .t → c < g .width → getD list (elementPlace g r c) 0 < g .s
@@ -73,38 +73,38 @@ module _ {list : List ℕ} {g : GeneratorAt} (known : GeneratorStands list g) wh
   -- ---- a tuple times a column
 
   value-below : (run c : ℕ) → c < g .width → columnValue list g run c < g .s
-  unfolding columnElements generatorIn generatorOf
+  unfolding columnElements fieldGenerator generatorOf
   value-below run c h =
       combination-below laws (digits-below positive (g .t) run) (below-map (entry-below c h) (below-from 0 (g .t) (omega arith)))
 
   -- of a run with a single digit: the digit times the element in its row
   pub single-value : (row digit c : ℕ) → row < g .t → digit < g .s → c < g .width
       → columnValue list g (single g row digit) c ≡ fieldProduct (g .s) digit (getD list (elementPlace g row c) 0)
-  unfolding columnElements generatorIn generatorOf single
+  unfolding columnElements fieldGenerator generatorOf single
   single-value row digit c hr hd hc =
       let back : g .t - 1 - (g .t - 1 - row) ≡ row = omega arith in
       value-single laws (entry-below c hc) (g .t - 1 - row) (omega arith) digit hd
-      ∙ ap (fieldProduct (g .s) digit) (ap (λ r. generatorIn list g .entry r c) back ∙ element-at row c hr hc)
+      ∙ ap (fieldProduct (g .s) digit) (ap (λ r. fieldGenerator list g .entry r c) back ∙ element-at row c hr hc)
 
   -- of a run whose digits are those of two others, above and below a weight
   sum-value : (k : ℕ) → k ≤ g .t → (q e c : ℕ) → e < g .s ^ k → c < g .width
       → columnValue list g (q * g .s ^ k + e) c ≡ fieldSum (g .s) (columnValue list g (q * g .s ^ k) c) (columnValue list g e c)
-  unfolding columnElements generatorIn generatorOf
+  unfolding columnElements fieldGenerator generatorOf
   sum-value k h q e c he hc = value-sum laws (entry-below c hc) k h q e he
 
   -- ---- the levels of a factor
 
   pub level-below : (run column i : ℕ) → column + i ≤ g .width → levelAt list g run column i < g .s ^ i
-  unfolding generatorIn generatorOf
+  unfolding fieldGenerator generatorOf
   level-below run column i h =
-      let G = generatorIn list g in
+      let G = fieldGenerator list g in
       let columns = below-from {n = width (G .widths)} column i (rw (known .row) h) in
       let each = values-below G laws (known .elements) (digits-below positive (g .t) run) columns in
       rw (values-length (fieldSum (g .s)) (fieldProduct (g .s)) G (digits (g .s) (g .t) run) (from column i), length-from) at (numeral-below each)
 
   -- with a column more, a level is what Horner's rule makes of it
   pub level-more : (run column i : ℕ) → levelAt list g run column (i + 1) ≡ levelAt list g run column i * g .s + columnValue list g run (column + i)
-  level-more run column i = level-next (fieldSum (g .s)) (fieldProduct (g .s)) (generatorIn list g) (digits (g .s) (g .t) run) (g .s) column i
+  level-more run column i = level-next (fieldSum (g .s)) (fieldProduct (g .s)) (fieldGenerator list g) (digits (g .s) (g .t) run) (g .s) column i
 
   -- and below 64
   pub level-small : (run : ℕ) {column count : ℕ} → ColumnsIn g column count → (i : ℕ) → i < count

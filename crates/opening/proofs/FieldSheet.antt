@@ -15,13 +15,13 @@ use Rattle.counting.specs.Table.{Table, columns, levelsOf}
 use Rattle.sheets.specs.Field.{fieldTable}
 use Rattle.sheets.specs.Steps.{fieldStep}
 use Rattle.sheets.proofs.FieldTable.{field-columns, field-levels}
-use Rattle.opening.specs.FieldPlaces.{GeneratorStands, ColumnsIn, widthsIn, generatorIn}
+use Rattle.opening.specs.FieldPlaces.{FieldStands, ColumnsIn, widthsIn, fieldGenerator}
 use Rattle.opening.specs.declared.field.GeneratorAt.{GeneratorAt}
 use Rattle.opening.proofs.FieldPlaces.{levelAt}
 
 -- the sheet
 abbrev pub sheetOf : List ℕ → GeneratorAt → Table
-sheetOf list g = fieldStep (generatorIn list g)
+sheetOf list g = fieldStep (fieldGenerator list g)
 
 -- how many columns the first factors have
 abbrev pub columnsBefore : List ℕ → GeneratorAt → ℕ → ℕ
@@ -31,7 +31,7 @@ columnsBefore list g i = sum i (λ k. getD (widthsIn list g) k 0)
 abbrev pub widthAt : List ℕ → GeneratorAt → ℕ → ℕ
 widthAt list g i = getD list (g .«widths_at» + i) 0
 
-module _ {list : List ℕ} {g : GeneratorAt} (known : GeneratorStands list g) where
+module _ {list : List ℕ} {g : GeneratorAt} (known : FieldStands list g) where
   widths-many : length (widthsIn list g) ≡ g .n
   unfolding widthsIn
   widths-many =
@@ -44,15 +44,15 @@ module _ {list : List ℕ} {g : GeneratorAt} (known : GeneratorStands list g) wh
   -- ---- the level counts
 
   pub sheet-columns : columns (sheetOf list g) ≡ g .n
-  unfolding fieldStep generatorIn generatorOf
-  sheet-columns = field-columns _ _ (generatorIn list g) ∙ widths-many
+  unfolding fieldStep fieldGenerator generatorOf
+  sheet-columns = field-columns _ _ (fieldGenerator list g) ∙ widths-many
 
   pub width-power : (i : ℕ) → i < g .n → g .s ^ widthAt list g i ≤ 64
   width-power i h = rw (← width-at i h) (known .powers i h)
 
   pub sheet-level : (i : ℕ) → i < g .n → levelsOf (sheetOf list g) i ≡ g .s ^ widthAt list g i
-  unfolding fieldStep generatorIn generatorOf
-  sheet-level i h = field-levels _ _ (generatorIn list g) (rw widths-many h) ∙ ap (λ u. g .s ^ u) (width-at i h)
+  unfolding fieldStep fieldGenerator generatorOf
+  sheet-level i h = field-levels _ _ (fieldGenerator list g) (rw widths-many h) ∙ ap (λ u. g .s ^ u) (width-at i h)
 
   -- ---- the cells
 
@@ -71,13 +71,13 @@ module _ {list : List ℕ} {g : GeneratorAt} (known : GeneratorStands list g) wh
   pub sheet-cell : (r i : ℕ) → i < g .n
       → sheetOf list g .cell r i
       ≡ levelAt list g r (columnsBefore list g i) (widthAt list g i)
-  unfolding fieldStep fieldTable generatorIn generatorOf factorColumns
+  unfolding fieldStep fieldTable fieldGenerator generatorOf factorColumns
   sheet-cell r i h = rw (width-at i h)
 
   -- ---- the runs
 
   pub sheet-runs : sheetOf list g .runs ≡ g .s ^ g .t
-  unfolding fieldStep fieldTable generatorIn generatorOf
+  unfolding fieldStep fieldTable fieldGenerator generatorOf
   sheet-runs = refl
 
   pub sheet-fits : g .s ^ g .t * columns (sheetOf list g) ≤ 65536

@@ -12,11 +12,11 @@ use Rattle.opening.specs.declared.field.GeneratorAt.{GeneratorAt}
 unfoldable pub widthsIn : List ℕ → GeneratorAt → List ℕ
 widthsIn list g = take (g .n) (drop (g .«widths_at») list)
 
-unfoldable pub generatorIn : List ℕ → GeneratorAt → Generator
-generatorIn list g = generatorOf (take (g .t * g .width) (drop (g .«entries_at») list)) (g .t) (g .s) (widthsIn list g)
+unfoldable pub fieldGenerator : List ℕ → GeneratorAt → Generator
+fieldGenerator list g = generatorOf (take (g .t * g .width) (drop (g .«entries_at») list)) (g .t) (g .s) (widthsIn list g)
 
 -- what the limits of an order (question 2) and the range of its entries (question 3) say of a generator
-pub record GeneratorStands (list : List ℕ) (g : GeneratorAt) : Type 0 where
+pub record FieldStands (list : List ℕ) (g : GeneratorAt) : Type 0 where
   pub short : length list ≤ 32768
   pub size : T (fieldSize (g .s))
   pub size-most : g .s ≤ 9
@@ -28,7 +28,7 @@ pub record GeneratorStands (list : List ℕ) (g : GeneratorAt) : Type 0 where
   pub entries-in : g .«entries_at» + g .t * g .width ≤ length list
   pub row : width (widthsIn list g) ≡ g .width
   pub powers : (i : ℕ) → i < g .n → g .s ^ getD (widthsIn list g) i 0 ≤ 64
-  pub elements : ElementsInRange (generatorIn list g)
+  pub elements : ElementsInRange (fieldGenerator list g)
 
 -- columns of the generator whose values make a level: s to the power of their number is at most 64
 pub record ColumnsIn (g : GeneratorAt) (column count : ℕ) : Type 0 where

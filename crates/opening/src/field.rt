@@ -11,7 +11,7 @@ ghost use Rattle.sheets.specs.Steps.{filled, fieldStep};
 ghost use Rattle.buffers.specs.Put.{Put};
 ghost use Rattle.layout.specs.Bytes.{Zeros, runOf, runsOf};
 ghost use Rattle.layout.specs.Step.{Readable, Stands, firstIn, Left};
-ghost use Rattle.opening.specs.FieldPlaces.{GeneratorStands, ColumnsIn, generatorIn};
+ghost use Rattle.opening.specs.FieldPlaces.{FieldStands, ColumnsIn, fieldGenerator};
 ghost use Rattle.opening.specs.LevelSums.{SumsOf, WidthsTo, Sums, single, Leads, RunsBefore, SumsStand, runSum};
 use buffers::put_byte;
 use finite::power;
@@ -74,10 +74,10 @@ pub fn field(list: &[u16], at: usize, table: &mut [u8], levels: &mut [u8]) -> An
 
 // The sheet of a generator: its level counts and its runs.
 fn fill(list: &[u16], g: GeneratorAt, table: &mut [u8], levels: &mut [u8]) -> Answer
-    requires { ⌜ GeneratorStands (now list) g ⌝ }
+    requires { ⌜ FieldStands (now list) g ⌝ }
     requires { ⌜ (65536 ≤ length (now table)) × Zeros (now table) ⌝ }
     requires { ⌜ (128 ≤ length (now levels)) × Zeros (now levels) ⌝ }
-    ensures { λ r. ⌜ Left (filled (fieldStep (generatorIn (now (list .entry)) g))) r (now (table .exit)) (now (levels .exit)) ⌝ }
+    ensures { λ r. ⌜ Left (filled (fieldStep (fieldGenerator (now (list .entry)) g))) r (now (table .exit)) (now (levels .exit)) ⌝ }
 {
     let runs = power(g.s as usize, g.t);
     put_levels(list, g, levels);
@@ -89,9 +89,9 @@ fn fill(list: &[u16], g: GeneratorAt, table: &mut [u8], levels: &mut [u8]) -> An
 
 // The level counts: s to the power of its width for each factor.
 fn put_levels(list: &[u16], g: GeneratorAt, levels: &mut [u8]) -> usize
-    requires { ⌜ GeneratorStands (now list) g ⌝ }
+    requires { ⌜ FieldStands (now list) g ⌝ }
     requires { ⌜ 128 ≤ length (now levels) ⌝ }
-    ensures { λ r. ⌜ Put (now (levels .entry)) 0 (fieldStep (generatorIn (now (list .entry)) g) .levels) (now (levels .exit)) r ⌝ }
+    ensures { λ r. ⌜ Put (now (levels .entry)) 0 (fieldStep (fieldGenerator (now (list .entry)) g) .levels) (now (levels .exit)) r ⌝ }
 {
     let widths_at = g.widths_at;
     let mut factor = 0;
@@ -105,7 +105,7 @@ fn put_levels(list: &[u16], g: GeneratorAt, levels: &mut [u8]) -> usize
 
 // The most columns that a factor has.
 fn widest(list: &[u16], g: GeneratorAt) -> usize
-    requires { ⌜ GeneratorStands (now list) g ⌝ }
+    requires { ⌜ FieldStands (now list) g ⌝ }
     ensures { λ r. ⌜ WidthsTo (now (list .entry)) g r × (g .s ^ r ≤ 64) ⌝ }
 {
     let widths_at = g.widths_at;
@@ -154,11 +154,11 @@ fn put_runs(
     sums: &[u8],
     table: &mut [u8],
 ) -> usize
-    requires { ⌜ GeneratorStands (now list) g ⌝ }
+    requires { ⌜ FieldStands (now list) g ⌝ }
     requires { ⌜ runs ≡ g .s ^ g .t ⌝ }
     requires { ⌜ Sums (now list) g most (now sums) ⌝ }
     requires { ⌜ 65536 ≤ length (now table) ⌝ }
-    ensures { λ r. ⌜ Put (now (table .entry)) 0 (runsOf (fieldStep (generatorIn (now (list .entry)) g))) (now (table .exit)) r ⌝ }
+    ensures { λ r. ⌜ Put (now (table .entry)) 0 (runsOf (fieldStep (fieldGenerator (now (list .entry)) g))) (now (table .exit)) r ⌝ }
 {
     let mut lead = Leading {
         run: 0,
@@ -213,12 +213,12 @@ fn put_run(
     table: &mut [u8],
     at: usize,
 ) -> usize
-    requires { ⌜ GeneratorStands (now list) g ⌝ }
+    requires { ⌜ FieldStands (now list) g ⌝ }
     requires { ⌜ Leads g lead × (lead .run ≤ run) × (run < lead .run + lead .span) ⌝ }
     requires { ⌜ Sums (now list) g most (now sums) ⌝ }
-    requires { ⌜ RunsBefore (fieldStep (generatorIn (now list) g)) run (now table) at ⌝ }
+    requires { ⌜ RunsBefore (fieldStep (fieldGenerator (now list) g)) run (now table) at ⌝ }
     requires { ⌜ at + g .n ≤ length (now table) ⌝ }
-    ensures { λ r. ⌜ Put (now (table .entry)) at (runOf (fieldStep (generatorIn (now (list .entry)) g)) run) (now (table .exit)) r ⌝ }
+    ensures { λ r. ⌜ Put (now (table .entry)) at (runOf (fieldStep (fieldGenerator (now (list .entry)) g)) run) (now (table .exit)) r ⌝ }
 {
     if run == lead.run {
         put_multiple(list, g, lead.row, lead.digit, table, at)
@@ -244,10 +244,10 @@ fn put_multiple(
     table: &mut [u8],
     at: usize,
 ) -> usize
-    requires { ⌜ GeneratorStands (now list) g ⌝ }
+    requires { ⌜ FieldStands (now list) g ⌝ }
     requires { ⌜ (row < g .t) × (digit < g .s) ⌝ }
     requires { ⌜ at + g .n ≤ length (now table) ⌝ }
-    ensures { λ r. ⌜ Put (now (table .entry)) at (runOf (fieldStep (generatorIn (now (list .entry)) g)) (single g row digit)) (now (table .exit)) r ⌝ }
+    ensures { λ r. ⌜ Put (now (table .entry)) at (runOf (fieldStep (fieldGenerator (now (list .entry)) g)) (single g row digit)) (now (table .exit)) r ⌝ }
 {
     let widths_at = g.widths_at;
     let mut place = at;
@@ -276,10 +276,10 @@ fn multiple_level(
     column: usize,
     width: usize,
 ) -> u8
-    requires { ⌜ GeneratorStands (now list) g ⌝ }
+    requires { ⌜ FieldStands (now list) g ⌝ }
     requires { ⌜ (row < g .t) × (digit < g .s) ⌝ }
     requires { ⌜ ColumnsIn g column width ⌝ }
-    ensures { λ r. ⌜ r ≡ numeral (g .s) (values (fieldSum (g .s)) (fieldProduct (g .s)) (generatorIn (now (list .entry)) g) (digits (g .s) (g .t) (single g row digit)) (from column width)) ⌝ }
+    ensures { λ r. ⌜ r ≡ numeral (g .s) (values (fieldSum (g .s)) (fieldProduct (g .s)) (fieldGenerator (now (list .entry)) g) (digits (g .s) (g .t) (single g row digit)) (from column width)) ⌝ }
 {
     let start = g.entries_at + row * g.width + column;
     let mut level = 0;

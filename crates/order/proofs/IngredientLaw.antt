@@ -4,10 +4,10 @@ use mathlib.Core.List.{List, [], _∷_, _++_}
 use Prim.Native.Nat.{ℕ, _*_}
 use native.Mathlib.Omega.{arith}
 use lib.ListN.{length}
-use Rattle.order.specs.Order.{Ingredient, table, matrix, generator, total, All, Between, FieldSize, Width, IngredientLimits, writtenIngredient}
+use Rattle.order.specs.Order.{Ingredient, table, matrix, generator, total, All, Between, GeneratorField, FactorWidth, IngredientLimits, writtenIngredient}
 use Rattle.order.specs.Reader.{value, allowed, times}
-use Rattle.order.specs.Grammar.{between, fieldSize, width, tableBody, matrixBody, generatorBody, body, mostRows, readIngredient}
-use Rattle.order.proofs.Tests.{between-iff, fieldSize-iff, width-iff}
+use Rattle.order.specs.Grammar.{between, generatorField, factorWidth, tableBody, matrixBody, generatorBody, body, mostRows, readIngredient}
+use Rattle.order.proofs.Tests.{between-iff, generatorField-iff, factorWidth-iff}
 use Rattle.order.proofs.Segment.{Segment, join}
 use Rattle.order.proofs.Law.{Law, number-law, numbers-law, series-law, same-value, bind-sound, bind-last, bind-complete}
 use Rattle.order.proofs.ByKind.{between-law, After, choose, with-first}
@@ -15,11 +15,11 @@ use Rattle.order.proofs.ByKind.{between-law, After, choose, with-first}
 pub levels-law : (n : ℕ) → Law (times n (allowed (between 2 64))) (λ levels. (length levels ≡ n) × All (Between 2 64) levels) (λ levels. levels)
 levels-law n = series-law (between 2 64) (Between 2 64) (between-iff 2 64) n
 
-pub fieldSize-law : (t : ℕ) → Law (allowed (fieldSize t)) (FieldSize t) (λ x. x ∷ [])
-fieldSize-law t = number-law (fieldSize t) (FieldSize t) (fieldSize-iff t)
+pub generatorField-law : (t : ℕ) → Law (allowed (generatorField t)) (GeneratorField t) (λ x. x ∷ [])
+generatorField-law t = number-law (generatorField t) (GeneratorField t) (generatorField-iff t)
 
-pub widths-law : (s n : ℕ) → Law (times n (allowed (width s))) (λ us. (length us ≡ n) × All (Width s) us) (λ us. us)
-widths-law s n = series-law (width s) (Width s) (width-iff s) n
+pub widths-law : (s n : ℕ) → Law (times n (allowed (factorWidth s))) (λ us. (length us ≡ n) × All (FactorWidth s) us) (λ us. us)
+widths-law s n = series-law (factorWidth s) (FactorWidth s) (factorWidth-iff s) n
 
 -- What is read after kind, rows and columns.
 module _ (list : List ℕ) (at rows columns : ℕ) (g : Ingredient) (next : ℕ) (h₂ : Between 1 128 columns) where
@@ -42,7 +42,7 @@ module _ (list : List ℕ) (at rows columns : ℕ) (g : Ingredient) (next : ℕ)
   generator-sound : Between 1 9 rows → generatorBody rows columns list at ≡ value g next → After IngredientLimits writtenIngredient (3 ∷ rows ∷ columns ∷ []) list at g next
   unfolding generatorBody
   generator-sound h₁ e =
-      bind-sound (fieldSize-law rows) at _ e λ s m₃ h₃ s₃ e₃.
+      bind-sound (generatorField-law rows) at _ e λ s m₃ h₃ s₃ e₃.
       bind-sound (widths-law s columns) m₃ _ e₃ λ widths m₄ h₄ s₄ e₄.
       bind-sound (numbers-law (rows * total widths)) m₄ _ e₄ λ entries m₅ h₅ s₅ e₅.
       same-value (After IngredientLimits writtenIngredient (3 ∷ rows ∷ columns ∷ []) list at) e₅
@@ -83,7 +83,7 @@ ingredient-complete list at (matrix rows columns p entries) next (h₁, h₂, h�
     bind-last (numbers-law (rows * columns)) _ entries h₄ s₃
 ingredient-complete list at (generator t s widths entries) next (h₁, h₂, h₃, h₄, h₅) seg =
     first-complete list at 3 t (length widths) (s ∷ widths ++ entries) (generator t s widths entries) next (omega arith) h₁ h₂ seg λ m₂ s₂.
-    bind-complete (fieldSize-law t) _ s (widths ++ entries) h₃ s₂ λ m₃ s₃.
+    bind-complete (generatorField-law t) _ s (widths ++ entries) h₃ s₂ λ m₃ s₃.
     bind-complete (widths-law s (length widths)) _ widths entries (refl, h₄) s₃ λ m₄ s₄.
     bind-last (numbers-law (t * total widths)) _ entries h₅ s₄
 

@@ -6,7 +6,7 @@ use native.Mathlib.Omega.{arith}
 use native.Mathlib.Decide.{decLe}
 use lib.Dec.{lit<, lit≤}
 use lib.ListN.{length}
-use Rattle.order.specs.Order.{total, All, Width}
+use Rattle.order.specs.Order.{total, All, FactorWidth}
 
 -- A power with base and exponent up to 9 is far below 2^32.
 pub small-power : (s n : ℕ) → s ≤ 9 → n ≤ 9 → s ^ n ≤ 4294967296
@@ -18,7 +18,7 @@ large-power s u hs hu =
     lt-of-lt-of-le (lit< tt) (le-trans (pow-le-pow-right {n = 2} (omega arith) hu) (pow-le-pow-left hs u))
 
 -- So the widths of factors are at most 6.
-pub width-small : (s u : ℕ) → 2 ≤ s → Width s u → u ≤ 6
+pub width-small : (s u : ℕ) → 2 ≤ s → FactorWidth s u → u ≤ 6
 width-small s u hs h =
     elim (decLe u 6) [
       | yes small ↦ small
@@ -26,7 +26,7 @@ width-small s u hs h =
     ]
 
 -- And the sum of n widths is at most 6 × n.
-pub total-small : (s : ℕ) (us : List ℕ) → 2 ≤ s → All (Width s) us → total us ≤ 6 * length us
+pub total-small : (s : ℕ) (us : List ℕ) → 2 ≤ s → All (FactorWidth s) us → total us ≤ 6 * length us
 total-small s [] hs h = omega arith
 total-small s (u ∷ us) hs h = omega (arith, width-small s u hs (h .0), total-small s us hs (h .1))
 

@@ -6,8 +6,8 @@ use Prim.Native.Nat.{ℕ, _^_, _≤_}
 use native.Mathlib.Omega.{arith}
 use borrow.Author.Tests.{le-leb, leb-true, eq-eqb, eqb-true}
 use lib.Dec.{leb, eqb}
-use Rattle.order.specs.Order.{Between, FieldSize, Width, MergePrime, IngredientNumber}
-use Rattle.order.specs.Grammar.{between, fieldSize, width, mergePrime, ingredientNumber, noneOrIngredient}
+use Rattle.order.specs.Order.{Between, GeneratorField, FactorWidth, MergePrime, IngredientNumber}
+use Rattle.order.specs.Grammar.{between, generatorField, factorWidth, mergePrime, ingredientNumber, noneOrIngredient}
 
 no-false : {C : Type 0} → false ≡ true → C
 no-false e = absurd (let z : _≡_ {A = ℕ} 0 1 = cc in omega arith)
@@ -38,11 +38,11 @@ not-iff false p = (λ e h. no-false (p .1 h), λ h. refl)
 pub between-iff : (low high x : ℕ) → (between low high x ≡ true) ↔ Between low high x
 between-iff low high x = and-iff (leb low x) (leb x high) (le-iff low x) (le-iff x high)
 
-pub fieldSize-iff : (t s : ℕ) → (fieldSize t s ≡ true) ↔ FieldSize t s
-fieldSize-iff t s = and₃-iff _ _ _ (between-iff 2 9 s) (not-iff (eqb s 6) (eq-iff s 6)) (le-iff (s ^ t) 512)
+pub generatorField-iff : (t s : ℕ) → (generatorField t s ≡ true) ↔ GeneratorField t s
+generatorField-iff t s = and₃-iff _ _ _ (between-iff 2 9 s) (not-iff (eqb s 6) (eq-iff s 6)) (le-iff (s ^ t) 512)
 
-pub width-iff : (s u : ℕ) → (width s u ≡ true) ↔ Width s u
-width-iff s u = and-iff (leb 1 u) (leb (s ^ u) 64) (le-iff 1 u) (le-iff (s ^ u) 64)
+pub factorWidth-iff : (s u : ℕ) → (factorWidth s u ≡ true) ↔ FactorWidth s u
+factorWidth-iff s u = and-iff (leb 1 u) (leb (s ^ u) 64) (le-iff 1 u) (le-iff (s ^ u) 64)
 
 pub mergePrime-iff : (p : ℕ) → (mergePrime p ≡ true) ↔ MergePrime p
 mergePrime-iff p = and₃-iff _ _ _ (between-iff 2 7 p) (not-iff (eqb p 4) (eq-iff p 4)) (not-iff (eqb p 6) (eq-iff p 6))

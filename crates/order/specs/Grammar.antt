@@ -8,15 +8,15 @@ use lib.Dec.{ltb, leb, eqb}
 use Rattle.order.specs.Order.{Ingredient, table, matrix, generator, Step, TAKE, FIELD, SUM, MERGE, SPLIT, Order, total}
 use Rattle.order.specs.Reader.{Parsed, value, refused, Reader, when, _>>=_, give, allowed, numbers, times}
 
--- Tests of single numbers, by the limits of specs/Order.antt: `Between`, `FieldSize`, `Width`, `MergePrime` and `IngredientNumber`.
+-- Tests of single numbers, by the limits of specs/Order.antt: `Between`, `GeneratorField`, `FactorWidth`, `MergePrime` and `IngredientNumber`.
 abbrev pub between : ℕ → ℕ → ℕ → Bool
 between low high x = leb low x && leb x high
 
-abbrev pub fieldSize : ℕ → ℕ → Bool
-fieldSize t s = between 2 9 s && not (eqb s 6) && leb (s ^ t) 512
+abbrev pub generatorField : ℕ → ℕ → Bool
+generatorField t s = between 2 9 s && not (eqb s 6) && leb (s ^ t) 512
 
-abbrev pub width : ℕ → ℕ → Bool
-width s u = leb 1 u && leb (s ^ u) 64
+abbrev pub factorWidth : ℕ → ℕ → Bool
+factorWidth s u = leb 1 u && leb (s ^ u) 64
 
 abbrev pub mergePrime : ℕ → Bool
 mergePrime p = between 2 7 p && not (eqb p 4) && not (eqb p 6)
@@ -50,8 +50,8 @@ matrixBody rows columns = do
 -- Rows is t and columns is n. A too large s^t is placed at s.
 unfoldable pub generatorBody : ℕ → ℕ → Reader Ingredient
 generatorBody t n = do
-  s ← allowed (fieldSize t)
-  widths ← times n (allowed (width s))
+  s ← allowed (generatorField t)
+  widths ← times n (allowed (factorWidth s))
   entries ← numbers (t * total widths)
   give (generator t s widths entries)
 

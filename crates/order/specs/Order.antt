@@ -44,13 +44,13 @@ All P (x ∷ xs) = P x × All P xs
 abbrev pub Between : ℕ → ℕ → ℕ → Type 0
 Between low high x = (low ≤ x) × (x ≤ high)
 
--- The sizes of the fields: 2, 3, 4, 5, 7, 8 and 9; and s^t is at most 512.
-abbrev pub FieldSize : ℕ → ℕ → Type 0
-FieldSize t s = Between 2 9 s × (s ≡ 6 → ⊥) × (s ^ t ≤ 512)
+-- The size s of the field of a generator with t rows: 2, 3, 4, 5, 7, 8 or 9, and s^t is at most 512.
+abbrev pub GeneratorField : ℕ → ℕ → Type 0
+GeneratorField t s = Between 2 9 s × (s ≡ 6 → ⊥) × (s ^ t ≤ 512)
 
 -- The width u of a factor: at least 1, and s^u is at most 64.
-abbrev pub Width : ℕ → ℕ → Type 0
-Width s u = (1 ≤ u) × (s ^ u ≤ 64)
+abbrev pub FactorWidth : ℕ → ℕ → Type 0
+FactorWidth s u = (1 ≤ u) × (s ^ u ≤ 64)
 
 -- The p of MERGE: 2, 3, 5 or 7.
 abbrev pub MergePrime : ℕ → Type 0
@@ -72,8 +72,8 @@ IngredientLimits (matrix rows columns p entries) =
 IngredientLimits (generator t s widths entries) =
     Between 1 9 t
     × Between 1 128 (length widths)
-    × FieldSize t s
-    × All (Width s) widths
+    × GeneratorField t s
+    × All (FactorWidth s) widths
     × (length entries ≡ t * total widths)
 
 -- Limits of a step; only the k of SUM may be 0, for none.

@@ -3,7 +3,7 @@ ghost use mathlib.Core.Path.{_≡_};
 ghost use Prim.Native.Nat.{_-_, _≤_};
 ghost use lib.ListN.{length, getD};
 ghost use Rattle.order.specs.Reader.{allowed, numbers, times};
-ghost use Rattle.order.specs.Grammar.{between, fieldSize, width, mergePrime, ingredientNumber, noneOrIngredient};
+ghost use Rattle.order.specs.Grammar.{between, generatorField, factorWidth, mergePrime, ingredientNumber, noneOrIngredient};
 ghost use Rattle.order.specs.Answers.{numberOf, totalOf, walkOf};
 use crate::Cursor;
 use crate::Number;
@@ -58,7 +58,7 @@ pub fn number(list: &[u16], c: Cursor, low: usize, high: usize) -> Number
 // Whether s is the size of a field, with s^t at most 512.
 fn is_field_size(t: usize, s: usize) -> bool
     requires { ⌜ t ≤ 9 ⌝ }
-    ensures { λ r. ⌜ r ≡ fieldSize t s ⌝ }
+    ensures { λ r. ⌜ r ≡ generatorField t s ⌝ }
 {
     if s < 2 {
         return false;
@@ -75,7 +75,7 @@ fn is_field_size(t: usize, s: usize) -> bool
 // The size of a field for a generator of t rows.
 pub(crate) fn field_size(list: &[u16], c: Cursor, t: usize) -> Number
     requires { ⌜ t ≤ 9 ⌝ }
-    ensures { λ r. ⌜ r ≡ numberOf (allowed (fieldSize t) (now (list .entry)) (c .at)) ⌝ }
+    ensures { λ r. ⌜ r ≡ numberOf (allowed (generatorField t) (now (list .entry)) (c .at)) ⌝ }
 {
     accept(list, c, is_field_size(t, peek(list, c)))
 }
@@ -83,7 +83,7 @@ pub(crate) fn field_size(list: &[u16], c: Cursor, t: usize) -> Number
 // Whether u is a width: at least 1, with s^u at most 64, which no u over 6 has.
 fn is_width(s: usize, u: usize) -> bool
     requires { ⌜ (2 ≤ s) × (s ≤ 9) ⌝ }
-    ensures { λ r. ⌜ r ≡ width s u ⌝ }
+    ensures { λ r. ⌜ r ≡ factorWidth s u ⌝ }
 {
     if u < 1 {
         return false;
@@ -97,7 +97,7 @@ fn is_width(s: usize, u: usize) -> bool
 // The width of a factor over a field of s elements.
 fn factor_width(list: &[u16], c: Cursor, s: usize) -> Number
     requires { ⌜ (2 ≤ s) × (s ≤ 9) ⌝ }
-    ensures { λ r. ⌜ r ≡ numberOf (allowed (width s) (now (list .entry)) (c .at)) ⌝ }
+    ensures { λ r. ⌜ r ≡ numberOf (allowed (factorWidth s) (now (list .entry)) (c .at)) ⌝ }
 {
     accept(list, c, is_width(s, peek(list, c)))
 }
@@ -216,7 +216,7 @@ pub(crate) fn ingredient_numbers(list: &[u16], start: Cursor, n: usize) -> Walk
 // The widths of n factors over a field of s elements, and their sum.
 pub(crate) fn widths(list: &[u16], start: Cursor, n: usize, s: usize) -> Number
     requires { ⌜ ((2 ≤ s) × (s ≤ 9)) × (n ≤ 128) ⌝ }
-    ensures { λ r. ⌜ r ≡ totalOf (times n (allowed (width s)) (now (list .entry)) (start .at)) ⌝ }
+    ensures { λ r. ⌜ r ≡ totalOf (times n (allowed (factorWidth s)) (now (list .entry)) (start .at)) ⌝ }
 {
     let mut c = start;
     let mut left = n;

@@ -13,7 +13,7 @@ use Rattle.finite.proofs.Fits.{place-below}
 use Rattle.galois.specs.Arithmetic.{fieldSize}
 use Rattle.galois.proofs.Tests.{all, passed}
 use Rattle.counting.specs.Table.{tableOf, InRange}
-use Rattle.counting.specs.Matrix.{matrixOf, EntriesInRange}
+use Rattle.counting.specs.Matrix.{matrixOf, MatrixInRange}
 use Rattle.counting.specs.Generator.{width, generatorOf, ElementsInRange}
 use Rattle.papers.specs.Digits.{digitValues}
 use Rattle.papers.specs.Written.{WrittenTable, WrittenMatrix, WrittenGenerator}
@@ -84,7 +84,7 @@ module _ (text : List ℕ) (rows columns p : ℕ) where
       ∷ []
 
   pub written-matrix : T (all matrixTests) → WrittenMatrix text rows columns p
-  unfolding EntriesInRange matrixOf
+  unfolding MatrixInRange matrixOf
   written-matrix t =
       let (short, (whole, (few, (from, (to, (inside, _)))))) = passed matrixTests t in
       record {

@@ -11,7 +11,7 @@ use Rattle.finite.proofs.Counts.{count-ext}
 use Rattle.galois.specs.Laws.{AbelianGroup}
 use Rattle.galois.proofs.Derived.{add-subtract, subtract-add}
 use Rattle.galois.proofs.Modulo.{modulo}
-use Rattle.counting.specs.Matrix.{Matrix, EntriesInRange, difference, rowDifference, differences, DifferenceMatrix}
+use Rattle.counting.specs.Matrix.{Matrix, MatrixInRange, difference, rowDifference, differences, DifferenceMatrix}
 use Rattle.sheets.specs.Sum.{levelSum}
 
 module _ (n : ℕ) (plus : ℕ → ℕ → ℕ) (group : AbelianGroup n plus) where
@@ -77,8 +77,8 @@ modulo-difference {p} {a} {b} {v} ha hb hv =
     (λ e. ap (λ x. (x + b) % p) (sym e) ∙ mod-add-mod (a + (p - b)) p b ∙ around p a (a + (p - b) + b) ha (omega arith))
 
 -- a difference matrix is one of the group modulo p
-pub modulo-differences : (D : Matrix) → EntriesInRange D → DifferenceMatrix D → GroupDifferences (levelSum (D .modulus)) D
-unfolding GroupDifferences DifferenceMatrix differences rowDifference EntriesInRange
+pub modulo-differences : (D : Matrix) → MatrixInRange D → DifferenceMatrix D → GroupDifferences (levelSum (D .modulus)) D
+unfolding GroupDifferences DifferenceMatrix differences rowDifference MatrixInRange
 modulo-differences D below even c d v h k l =
     ap
     (λ n. D .modulus * n)

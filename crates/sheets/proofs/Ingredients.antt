@@ -22,11 +22,11 @@ use Rattle.galois.specs.Laws.{Field}
 use Rattle.galois.proofs.Fields.{field}
 use Rattle.galois.proofs.Tests.{otherwise}
 use Rattle.counting.specs.Table.{Table, columns, tableOf, InRange}
-use Rattle.counting.specs.Matrix.{Matrix, matrixOf, EntriesInRange as MatrixInRange}
+use Rattle.counting.specs.Matrix.{Matrix, matrixOf, MatrixInRange}
 use Rattle.counting.specs.Generator.{Generator, factors, generatorOf, width, ElementsInRange}
 use Rattle.house.specs.House.{house101, house102, house103, house104, houseOf, houseTable}
 use Rattle.house.proofs.Passing.{house-passes, house-even, house-number}
-use Rattle.order.specs.Order.{Ingredient, table, matrix, generator, Order, total, All, Between, FieldSize, Width, IngredientLimits, WithinLimits, entriesOf}
+use Rattle.order.specs.Order.{Ingredient, table, matrix, generator, Order, total, All, Between, GeneratorField, FactorWidth, IngredientLimits, WithinLimits, entriesOf}
 use Rattle.entry_range.specs.Range.{bound, EntriesInRange}
 use Rattle.sheets.specs.Lists.{allOf}
 use Rattle.sheets.specs.Sheet.{LevelsAtMost, Sound}
@@ -66,7 +66,7 @@ sizes : T (every 10 sizesTest)
 unfolding sizesTest fieldSize every
 sizes = tt
 
-pub field-size : (t s : ℕ) → FieldSize t s → T (fieldSize s)
+pub field-size : (t s : ℕ) → GeneratorField t s → T (fieldSize s)
 unfolding sizesTest
 field-size t s (between, six, most) =
     let tested = all-every 10 sizesTest sizes s (omega arith) in
@@ -107,7 +107,7 @@ module _ (t s : ℕ) (widths entries : List ℕ) (limits : IngredientLimits (gen
   generator-levels c h =
       let G = generatorOf entries t s widths in
       let below : c < factors G = rw (field-columns _ _ G) at h in
-      rw (field-levels _ _ G below) (all-getD (Width s) widths (limits .3) c 0 below .1)
+      rw (field-levels _ _ G below) (all-getD (FactorWidth s) widths (limits .3) c 0 below .1)
 
 -- what questions 2 to 4 say of an ingredient
 record Known (g : Ingredient) : Type 0 where

@@ -20,7 +20,7 @@ use Rattle.finite.proofs.Sums.{sum-ext}
 use Rattle.finite.proofs.Counts.{count-ext, count-and, count-product, count-exchange, sum-passing}
 use Rattle.finite.proofs.Lists.{length-from}
 use Rattle.galois.specs.Laws.{AbelianGroup}
-use Rattle.counting.specs.Matrix.{Matrix, EntriesInRange}
+use Rattle.counting.specs.Matrix.{Matrix, MatrixInRange}
 use Rattle.counting.specs.Table.{Table, columns, levelsOf, Setting, shows, times, combinations, Apart, Settings, InRange, Even}
 use Rattle.sheets.specs.Lists.{Distinct}
 use Rattle.sheets.specs.Sheet.{fromSources, OrthogonalArray, LevelsAtMost}
@@ -170,7 +170,7 @@ both-equal x a b =
     (λ n. rw (ne-eqb x a n) (sym (and-false (eqb a b))))
 
 module _ (plus : ℕ → ℕ → ℕ → ℕ) (group : (p : ℕ) → 0 < p → AbelianGroup p (plus p)) (Ds : List Matrix) (K S : Table) (fits : SumFits Ds K S)
-    (below : (D : Matrix) → List·Memᴰ D Ds → EntriesInRange D) (range : InRange S) where
+    (below : (D : Matrix) → List·Memᴰ D Ds → MatrixInRange D) (range : InRange S) where
   -- the level of the sheet that row y takes to level v
   abbrev shifted : ℕ → SumSource → ℕ → ℕ
   shifted y (summed j D c) v = less plus group (D .modulus) v (D .entry y c)
@@ -178,7 +178,7 @@ module _ (plus : ℕ → ℕ → ℕ → ℕ) (group : (p : ℕ) → 0 < p → A
 
   -- a matrix that serves column j: its p, its entries and the column's levels
   entry-below : (j c y : ℕ) (D : Matrix) → Comes Ds K S (summed j D c) → y < rowsOf Ds → D .entry y c < D .modulus
-  unfolding EntriesInRange
+  unfolding MatrixInRange
   entry-below j c y D p h =
       let m = serving-mem Ds (levelsOf S j) D (p .1) .0 in
       below D m y c (rw (fits .equal-rows D m) h) (p .2)
@@ -425,7 +425,7 @@ module _ (plus : ℕ → ℕ → ℕ → ℕ) (group : (p : ℕ) → 0 < p → A
 
 -- SUM with any abelian group on the levels, for matrices whose differences in that group are even
 pub group-sum-leaves : (plus : ℕ → ℕ → ℕ → ℕ) → ((p : ℕ) → 0 < p → AbelianGroup p (plus p)) → (Ds : List Matrix) (K S : Table) → SumFits Ds K S
-    → ((D : Matrix) → List·Memᴰ D Ds → EntriesInRange D) → ((D : Matrix) → List·Memᴰ D Ds → GroupDifferences (plus (D .modulus)) D)
+    → ((D : Matrix) → List·Memᴰ D Ds → MatrixInRange D) → ((D : Matrix) → List·Memᴰ D Ds → GroupDifferences (plus (D .modulus)) D)
     → OrthogonalArray 2 K → OrthogonalArray 2 S → OrthogonalArray 2 (sumStep plus Ds K S)
 unfolding sumStep
 group-sum-leaves plus group Ds K S fits below differences table sheet =

@@ -8,7 +8,7 @@ use Prim.Native.Nat.{ℕ, _+_, _*_, _/_, _%_}
 use lib.Dec.{eqb}
 use Rattle.finite.specs.Lists.{from}
 use Rattle.galois.specs.Arithmetic.{member}
-use Rattle.counting.specs.Matrix.{Matrix, EntriesInRange, DifferenceMatrix}
+use Rattle.counting.specs.Matrix.{Matrix, MatrixInRange, DifferenceMatrix}
 use Rattle.counting.specs.Table.{Table, columns, levelsOf}
 use Rattle.sheets.specs.Lists.{Distinct, allOf, allDifferent}
 use Rattle.sheets.specs.Sheet.{fromSources}
@@ -23,7 +23,7 @@ modulusOf D = D .modulus
 
 -- a difference matrix with every entry in range
 pub record PassingMatrix (D : Matrix) : Type 0 where
-  pub in-range : EntriesInRange D
+  pub in-range : MatrixInRange D
   pub differences : DifferenceMatrix D
 
 -- M, the rows of the matrices

@@ -29,7 +29,7 @@ use Rattle.ingredients.specs.Standing.{MatrixStands}
 use Rattle.ingredients.proofs.Standing.{matrix-stands}
 use Rattle.layout.specs.Bytes.{zeros}
 use Rattle.layout.specs.Step.{Readable}
-use Rattle.summing.specs.Summing.{matrixPlace, matrixIn, matrixAt, matricesAt, fitTogether, matrixFrom, Serves}
+use Rattle.summing.specs.Summing.{matrixPlace, placedMatrix, matrixAt, matricesAt, fitTogether, matrixFrom, Serves}
 use Rattle.summing.specs.declared.matrices.MatrixPlace.{MatrixPlace}
 use Rattle.layout.proofs.Sheets.{zero-at}
 
@@ -230,14 +230,14 @@ module _ {list numbers : List ℕ} {rows i : ℕ} {entries widths : List ℕ} (w
     before : List Matrix
     before = matricesAt list (take i numbers)
 
-    whole : matricesAt list numbers ≡ before ++ matrixIn list m ∷ matricesAt list (drop (suc i) numbers)
+    whole : matricesAt list numbers ≡ before ++ placedMatrix list m ∷ matricesAt list (drop (suc i) numbers)
     unfolding matricesAt matrixAt before
     whole =
         ap (matricesAt list) (split-at numbers i 0 h)
         ∙ map-append (matrixAt list) (take i numbers) (getD numbers i 0 ∷ drop (suc i) numbers)
         ∙ rw e
 
-    more : matricesAt list (take (i + 1) numbers) ≡ before ++ matrixIn list m ∷ []
+    more : matricesAt list (take (i + 1) numbers) ≡ before ++ placedMatrix list m ∷ []
     unfolding matricesAt matrixAt before
     more =
         ap (λ (n : ℕ). matricesAt list (take n numbers)) (add-one i)
@@ -247,27 +247,27 @@ module _ {list numbers : List ℕ} {rows i : ℕ} {entries widths : List ℕ} (w
 
     -- the next matrix has other rows
     pub rows-differ : (m .rows ≡ rows → ⊥) → false ≡ fitTogether rows (matricesAt list numbers)
-    unfolding matrixIn matrixOf
+    unfolding placedMatrix matrixOf
     rows-differ n =
         false-is (fitTogether rows (matricesAt list numbers)) λ t.
         let f = fitting-decides rows (matricesAt list numbers) .0 t in
-        n (f .equal (matrixIn list m) (rw whole (Memᴰ·append-right before (List·Memᴰ·head refl))))
+        n (f .equal (placedMatrix list m) (rw whole (Memᴰ·append-right before (List·Memᴰ·head refl))))
 
     -- its p is another's
     pub p-again : (getD widths (m .p) 0 ≡ 0 → ⊥) → false ≡ fitTogether rows (matricesAt list numbers)
-    unfolding matrixIn matrixOf before
+    unfolding placedMatrix matrixOf before
     p-again n =
         false-is (fitTogether rows (matricesAt list numbers)) λ t.
         let f = fitting-decides rows (matricesAt list numbers) .0 t in
         let served : T (member (m .p) (map modulusOf before)) = rw (serves-member (w .serves) (m .p), lt-ltb 0 (getD widths (m .p) 0) (omega arith)) tt in
         distinct-twice (map modulusOf before) (map modulusOf (matricesAt list (drop (suc i) numbers))) (m .p)
         (member-mem (m .p) (map modulusOf before) served)
-        (rw (whole, map-append modulusOf before (matrixIn list m ∷ matricesAt list (drop (suc i) numbers))) at (f .different))
+        (rw (whole, map-append modulusOf before (placedMatrix list m ∷ matricesAt list (drop (suc i) numbers))) at (f .different))
 
     -- it fits, and is entered
     module _ (equal : m .rows ≡ rows) (free : getD widths (m .p) 0 ≡ 0) where
-      fitting-next : Fitting rows (before ++ matrixIn list m ∷ [])
-      unfolding matrixIn matrixOf before
+      fitting-next : Fitting rows (before ++ placedMatrix list m ∷ [])
+      unfolding placedMatrix matrixOf before
       fitting-next =
           record {
             equal = λ D n.
@@ -275,7 +275,7 @@ module _ {list numbers : List ℕ} {rows i : ℕ} {entries widths : List ℕ} (w
                 (λ o. ap (λ (E : Matrix). E .rows) (List·Memᴰ·eq-of-singleton o) ∙ equal)
                 (List·Memᴰ·append-cases before n);
             different =
-                rw (map-append modulusOf before (matrixIn list m ∷ []))
+                rw (map-append modulusOf before (placedMatrix list m ∷ []))
                 (distinct-append (map modulusOf before) (m .p ∷ []) (w .fitting .different) (λ n. List·Memᴰ·not-nil n, tt) λ x n o.
                 let same : x ≡ m .p = List·Memᴰ·eq-of-singleton o in
                 let none : member x (map modulusOf before) ≡ false = serves-member (w .serves) x ∙ rw (same, free) in
@@ -283,9 +283,9 @@ module _ {list numbers : List ℕ} {rows i : ℕ} {entries widths : List ℕ} (w
           }
 
       pub so-far-next : MatrixStands list (m .rows) (m .columns) (m .p) (m .start) → SoFar list numbers rows (i + 1) (set entries (m .p) (m .start)) (set widths (m .p) (m .columns))
-      unfolding matrixIn before
+      unfolding placedMatrix before
       so-far-next stands =
-          let same : matrixIn list m ≡ standing list rows (m .start) (m .columns) (m .p) = rw equal in
+          let same : placedMatrix list m ≡ standing list rows (m .start) (m .columns) (m .p) = rw equal in
           record {
             among = omega arith;
             fitting = rw more fitting-next;

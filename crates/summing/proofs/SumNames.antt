@@ -32,7 +32,7 @@ use Rattle.ingredients.proofs.Parts.{part-length}
 use Rattle.ingredients.proofs.Standing.{matrix-stands}
 use Rattle.ingredients.proofs.NamedLaws.{table-named, matrix-named, named-legible, named-limits}
 use Rattle.layout.specs.Step.{Readable, Stands, laterIn, Left}
-use Rattle.summing.specs.Summing.{matrixPlace, matrixIn, matrixAt, matricesAt, isMissing}
+use Rattle.summing.specs.Summing.{matrixPlace, placedMatrix, matrixAt, matricesAt, isMissing}
 use Rattle.layout.proofs.Operands.{operands-stand, later-in}
 use Rattle.summing.proofs.Serving.{untrue}
 
@@ -75,8 +75,8 @@ numbers-many {list} {at} stand = rw (part-length list (at + 1) (getD list at 0) 
 
 module _ {list : List ℕ} (readable : Readable list) where
   matrix-found : (d : ℕ) → 1 ≤ d → (L : Located) → ingredientAt (readOrder list) d ≡ L
-      → someMatrix list L ≡ cond (ltb 0 (matrixIn list (matrixPlace L) .rows)) (some (matrixIn list (matrixPlace L))) none
-  unfolding someMatrix matrixPlace matrixIn matrixOf
+      → someMatrix list L ≡ cond (ltb 0 (placedMatrix list (matrixPlace L) .rows)) (some (placedMatrix list (matrixPlace L))) none
+  unfolding someMatrix matrixPlace placedMatrix matrixOf
   matrix-found d h (TableAt rows k levelsAt entriesAt) e = refl
   matrix-found d h (MatrixAt rows k p start) e =
       let stands = matrix-stands list (readable .order) (readable .reads) (readable .in-range) d h e in

@@ -33,12 +33,12 @@ matrixPlace (GeneratorAt t n s widthsAt width entriesAt) = record { rows = 0; co
 matrixPlace NothingAt = record { rows = 0; columns = 0; p = 0; start = 0 }
 
 -- the matrix that stands there
-unfoldable pub matrixIn : List ℕ → MatrixPlace → Matrix
-matrixIn list m = matrixOf (take (m .rows * m .columns) (drop (m .start) list)) (m .rows) (m .columns) (m .p)
+unfoldable pub placedMatrix : List ℕ → MatrixPlace → Matrix
+placedMatrix list m = matrixOf (take (m .rows * m .columns) (drop (m .start) list)) (m .rows) (m .columns) (m .p)
 
 -- the matrix that a number names, and those that some numbers name
 unfoldable pub matrixAt : List ℕ → ℕ → Matrix
-matrixAt list d = matrixIn list (matrixPlace (ingredientAt (readOrder list) d))
+matrixAt list d = placedMatrix list (matrixPlace (ingredientAt (readOrder list) d))
 
 unfoldable pub matricesAt : List ℕ → List ℕ → List Matrix
 matricesAt list ds = map (matrixAt list) ds

@@ -14,7 +14,7 @@ use Rattle.sheets.specs.Sum.{rowsOf}
 use Rattle.ingredients.specs.Named.{someTable}
 use Rattle.ingredients.specs.Standing.{MatrixStands}
 use Rattle.layout.specs.Bytes.{sheetIn}
-use Rattle.summing.specs.Summing.{matrixIn, matrixAt, matricesAt, Serves}
+use Rattle.summing.specs.Summing.{placedMatrix, matrixAt, matricesAt, Serves}
 use Rattle.summing.specs.declared.matrices.MatrixPlace.{MatrixPlace}
 use Rattle.layout.proofs.Sheets.{ready-few}
 use Rattle.summing.proofs.Serving.{place-stands}
@@ -38,7 +38,7 @@ sheet-of c = sheetIn (c .args .table .now) (c .args .levels .now) (c .args .size
 
 -- M
 rows-known : (c : tie.After-matrix-named) → matrixAt (start-of c .args .list .now) (getD (start-of c .args .ds .now) 0 0) .rows ≡ c .matrix-named .result .rows
-unfolding matrixAt matrixIn matrixOf
+unfolding matrixAt placedMatrix matrixOf
 rows-known c = ap (λ (m : MatrixPlace). m .rows) (sym (c .matrix-named .ensures))
 
 equal-rows : (c : tie.After-matrix-named) → rowsOf (matrices-of (start-of c)) ≡ c .matrix-named .result .rows

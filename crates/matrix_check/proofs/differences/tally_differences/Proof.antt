@@ -11,7 +11,7 @@ use lib.Dec.{lit≤}
 use lib.ListN.{length, getD}
 use Rattle.finite.proofs.Tabulated.{looked-up}
 use Rattle.finite.proofs.Fits.{place-below, run-more, run-end, offset-fits}
-use Rattle.counting.specs.Matrix.{matrixOf, difference, rowDifference, EntriesInRange}
+use Rattle.counting.specs.Matrix.{matrixOf, difference, rowDifference, MatrixInRange}
 use Rattle.tally.specs.Tally.{Tallied}
 use Rattle.tally.proofs.Tallies.{tallied-none, tallied-more, counter-fits}
 use Rattle.matrix_check.proofs.differences.tally_differences.Statement.{statement}
@@ -45,13 +45,13 @@ next-row c = rw (c .before .loop .inv .1) (run-end _ _ (c .loop-test .taken) (c 
 
 first-below : (c : tie.In-loop Inv-loop μ-loop)
     → getD (now (c .before .before .args .entries)) (c .before .loop .start + c .before .before .args .first) 0 < c .before .before .args .p
-unfolding EntriesInRange matrixOf
+unfolding MatrixInRange matrixOf
 first-below c =
     rw (c .before .loop .inv .1) (c .before .before .pre .0 .in-range _ _ (c .loop-test .taken) (c .before .before .pre .1 .0 .0))
 
 second-below : (c : tie.In-loop Inv-loop μ-loop)
     → getD (now (c .before .before .args .entries)) (c .before .loop .start + c .before .before .args .second) 0 < c .before .before .args .p
-unfolding EntriesInRange matrixOf
+unfolding MatrixInRange matrixOf
 second-below c =
     rw (c .before .loop .inv .1) (c .before .before .pre .0 .in-range _ _ (c .loop-test .taken) (c .before .before .pre .1 .0 .1))
 

@@ -6,7 +6,7 @@ use lib.ListN.{getD}
 use Rattle.order.specs.Grammar.{readOrder}
 use Rattle.places.specs.Places.{ingredientAt}
 use Rattle.layout.specs.Step.{Left}
-use Rattle.opening.specs.FieldPlaces.{GeneratorStands}
+use Rattle.opening.specs.FieldPlaces.{FieldStands}
 use Rattle.opening.specs.declared.field.GeneratorAt.{GeneratorAt}
 use Rattle.layout.proofs.Operands.{list-short, operand-in}
 use Rattle.opening.proofs.FieldNamed.{placesOf, field-generator, field-filled, field-refused}
@@ -48,7 +48,7 @@ found : (c : tie.After-known-told)
     ingredientAt (readOrder (args .list .now)) (getD (args .list .now) (args .at) 0) ≡ placesOf (places c)
 found c = sym (c .before .before .before .ingredient-at .ensures) ∙ c .before .t .given .1
 
-known : (c : tie.After-known-told) → GeneratorStands (c .before .before .before .before .before .before .before .before .args .list .now) (places c)
+known : (c : tie.After-known-told) → FieldStands (c .before .before .before .before .before .before .before .before .args .list .now) (places c)
 known c =
     let pre = c .before .before .before .before .before .before .before .before .pre in
     field-generator (pre .1 .0) (pre .0) (places c) (found c)

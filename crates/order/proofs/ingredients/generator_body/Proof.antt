@@ -4,7 +4,7 @@ use native.Mathlib.Omega.{arith}
 use denote.Ref.{now}
 use Prim.Native.Nat.{_≤_}
 use Rattle.order.specs.Reader.{allowed, times}
-use Rattle.order.specs.Grammar.{fieldSize, width, generatorBody}
+use Rattle.order.specs.Grammar.{generatorField, factorWidth, generatorBody}
 use Rattle.order.specs.Answers.{numberOf, totalOf, spotOf}
 use Rattle.order.specs.declared.Number.the-variants.{Is}
 use Rattle.order.proofs.Powers.{product-fits}
@@ -21,7 +21,7 @@ enum-known-s : tie.Need-enum-known-s
 enum-known-s c = search needs
 
 -- The size of the field was read.
-size-read : (c : tie.After-known-told) → numberOf (allowed (fieldSize (c .before .before .before .before .before .args .t)) (now (c .before .before .before .before .before .args .list)) (c .before .before .before .before .before .args .from .at)) ≡ Is (c .before .s .given .0 .0) (c .before .s .given .0 .1 .0)
+size-read : (c : tie.After-known-told) → numberOf (allowed (generatorField (c .before .before .before .before .before .args .t)) (now (c .before .before .before .before .before .args .list)) (c .before .before .before .before .before .args .from .at)) ≡ Is (c .before .s .given .0 .0) (c .before .s .given .0 .1 .0)
 size-read c = sym (c .before .before .before .field-size .ensures) ∙ c .before .s .given .1
 
 size-low : (c : tie.After-known-told) → 2 ≤ c .before .s .given .0 .0
@@ -37,7 +37,7 @@ enum-known-width : tie.Need-enum-known-width
 enum-known-width c = search needs
 
 -- The widths were read.
-widths-read : (c : tie.After-known-told2) → totalOf (times (c .before .before .before .before .before .before .before .before .before .args .n) (allowed (width (c .before .before .before .before .before .s .given .0 .0))) (now (c .before .before .before .before .before .before .before .before .before .args .list)) (c .before .before .before .before .before .s .given .0 .1 .0 .at)) ≡ Is (c .before .width .given .0 .0) (c .before .width .given .0 .1 .0)
+widths-read : (c : tie.After-known-told2) → totalOf (times (c .before .before .before .before .before .before .before .before .before .args .n) (allowed (factorWidth (c .before .before .before .before .before .s .given .0 .0))) (now (c .before .before .before .before .before .before .before .before .before .args .list)) (c .before .before .before .before .before .s .given .0 .1 .0 .at)) ≡ Is (c .before .width .given .0 .0) (c .before .width .given .0 .1 .0)
 widths-read c = sym (c .before .before .before .widths .ensures) ∙ c .before .width .given .1
 
 mul-skip : tie.Need-mul-skip

@@ -1,6 +1,6 @@
 -- `order::numbers::factor_width` meets its contract, by the law that joins the number, its test and what is accepted.
 use denote.Ref.{now}
-use Rattle.order.specs.Grammar.{width}
+use Rattle.order.specs.Grammar.{factorWidth}
 use Rattle.order.proofs.Answers.{accepted}
 use borrow.Author.Needs.{needs}
 use Rattle.order.proofs.numbers.factor_width.Statement.{statement}
@@ -18,7 +18,7 @@ accept-requires c κs = search needs
 returns : tie.Need-returns
 returns c =
     let a = c .before .before .before .before .args in
-    accepted (width (a .s)) (now (a .list)) (a .c .at) (c .before .before .peek .ensures) (c .before .is-width .ensures) (c .accept .ensures)
+    accepted (factorWidth (a .s)) (now (a .list)) (a .c .at) (c .before .before .peek .ensures) (c .before .is-width .ensures) (c .accept .ensures)
 
 pub factor-width-spec : {M : Type 1} → statement M
 factor-width-spec = tie.close (tie.spec peek-requires is-width-requires accept-requires returns)

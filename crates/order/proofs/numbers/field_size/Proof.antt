@@ -1,6 +1,6 @@
 -- `order::numbers::field_size` meets its contract, by the law that joins the number, its test and what is accepted.
 use denote.Ref.{now}
-use Rattle.order.specs.Grammar.{fieldSize}
+use Rattle.order.specs.Grammar.{generatorField}
 use Rattle.order.proofs.Answers.{accepted}
 use borrow.Author.Needs.{needs}
 use Rattle.order.proofs.numbers.field_size.Statement.{statement}
@@ -18,7 +18,7 @@ accept-requires c κs = search needs
 returns : tie.Need-returns
 returns c =
     let a = c .before .before .before .before .args in
-    accepted (fieldSize (a .t)) (now (a .list)) (a .c .at) (c .before .before .peek .ensures) (c .before .is-field-size .ensures) (c .accept .ensures)
+    accepted (generatorField (a .t)) (now (a .list)) (a .c .at) (c .before .before .peek .ensures) (c .before .is-field-size .ensures) (c .accept .ensures)
 
 pub field-size-spec : {M : Type 1} → statement M
 field-size-spec = tie.close (tie.spec peek-requires is-field-size-requires accept-requires returns)

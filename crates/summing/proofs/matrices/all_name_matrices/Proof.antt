@@ -6,7 +6,7 @@ use borrow.Author.Needs.{needs}
 use lib.Dec.{ltb}
 use lib.ListN.{length}
 use Rattle.counting.specs.Matrix.{matrixOf}
-use Rattle.summing.specs.Summing.{matrixIn, matrixAt}
+use Rattle.summing.specs.Summing.{placedMatrix, matrixAt}
 use Rattle.summing.specs.declared.matrices.MatrixPlace.{MatrixPlace}
 use Rattle.summing.proofs.Pieces.{PassSoFar, passing-none, passing-more, passing-all, passing-fails, positive-true, positive-false}
 use Rattle.summing.proofs.matrices.all_name_matrices.Statement.{statement}
@@ -34,7 +34,7 @@ matrix-named-requires : tie.Need-matrix-named-requires Inv-loop μ-loop
 matrix-named-requires c κs = search needs
 
 returns : tie.Need-returns Inv-loop μ-loop
-unfolding matrixAt matrixIn matrixOf
+unfolding matrixAt placedMatrix matrixOf
 returns c =
     passing-fails (c .before .before .before .before .before .loop .inv) (c .before .before .before .before .loop-test .taken)
     (positive-false (sym (ap (λ (m : MatrixPlace). m .rows) (c .before .before .matrix-named .ensures)) ∙ c .if1 .taken))
@@ -46,7 +46,7 @@ loop-less : tie.Need-loop-less Inv-loop μ-loop
 loop-less c = search needs
 
 loop-again : tie.Need-loop-again Inv-loop μ-loop
-unfolding matrixAt matrixIn matrixOf
+unfolding matrixAt placedMatrix matrixOf
 loop-again c =
     passing-more (c .before .before .before .before .before .loop .inv) (c .before .before .before .before .loop-test .taken)
     (positive-true (λ e. c .if1 .left (ap (λ (m : MatrixPlace). m .rows) (c .before .before .matrix-named .ensures) ∙ e)))
