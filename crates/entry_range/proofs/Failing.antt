@@ -6,7 +6,7 @@ use Prim.Native.Nat.{ℕ, zero, suc, _+_, _-_, _≤_, _<_}
 use native.Mathlib.Nat.{add-zero, zero-add, suc-add, add-assoc}
 use native.Mathlib.Omega.{arith}
 use Rattle.order.specs.Reader.{when}
-use Rattle.entry_range.specs.Range.{firstFailing, orElse}
+use Rattle.entry_range.specs.Range.{firstFailing, earlier}
 use Rattle.entry_range.specs.Search.{isInRange}
 use Rattle.entry_range.specs.declared.Entries.{Entries}
 use Rattle.entry_range.specs.declared.Entries.the-variants.{InRange, OutOfRange}
@@ -37,14 +37,14 @@ module _ (ok : ℕ → Bool) (start : ℕ) where
 
   -- Of numbers in two parts, those of the second are looked at where none of the first fails.
   pub failing-parts : (left more q : ℕ) →
-      firstFailing ok start (left + more) q ≡ orElse (firstFailing ok start left q) (firstFailing ok start more (q + left))
+      firstFailing ok start (left + more) q ≡ earlier (firstFailing ok start left q) (firstFailing ok start more (q + left))
   failing-parts zero more q = rw (zero-add, add-zero)
   failing-parts (suc left) more q =
       let next : q + suc left ≡ q + 1 + left = omega arith in
       rw (suc-add, next) (go (ok q) _ _ (failing-parts left more (q + 1)))
     where
-      go : (b : Bool) {rest : Entries} (part after : Entries) → rest ≡ orElse part after →
-          when b rest (OutOfRange (start + q)) ≡ orElse (when b part (OutOfRange (start + q))) after
+      go : (b : Bool) {rest : Entries} (part after : Entries) → rest ≡ earlier part after →
+          when b rest (OutOfRange (start + q)) ≡ earlier (when b part (OutOfRange (start + q))) after
       go true part after e = e
       go false part after e = refl
 

@@ -17,10 +17,10 @@ use Rattle.order.specs.declared.Cursor.{Cursor}
 use Rattle.order.specs.declared.Number.the-variants.{Is, Refused}
 use Rattle.order.proofs.Law.{same-value}
 use Rattle.order.proofs.IngredientLaw.{ingredient-law}
-use Rattle.places.specs.Places.{ingredientsOf, firstIngredient, ingredientsStart}
+use Rattle.places.specs.Places.{ingredientsOf, firstIngredientPlace, ingredientsStart}
 use Rattle.places.proofs.Parts.{continued, ingredients-parts}
 use Rattle.places.proofs.Lookups.{start-order, start-refused}
-use Rattle.entry_range.specs.Range.{bound, EntriesInRange, ingredientRange, orElse, ingredientsRange, rangeOf}
+use Rattle.entry_range.specs.Range.{bound, EntriesInRange, ingredientRange, earlier, ingredientsRange, rangeOf}
 use Rattle.entry_range.specs.Search.{scanned}
 use Rattle.entry_range.specs.declared.Entries.{Entries}
 use Rattle.entry_range.specs.declared.Entries.the-variants.{InRange, OutOfRange, Unread}
@@ -39,16 +39,16 @@ scanned-times (suc n) list at gs next e =
 pub scanned-order : (list : List ℕ) {q : ℕ} {next : Cursor} → ingredientsStart (readOrder list) ≡ Is q next → scanned q list (next .at) ≡ rangeOf (readOrder list)
 unfolding rangeOf ingredientsStart
 scanned-order list {q} {next} e =
-    start-order ingredientsOf firstIngredient (readOrder list) e λ o last v many one.
+    start-order ingredientsOf firstIngredientPlace (readOrder list) e λ o last v many one.
     ingredients-parts list o last v λ mid count read.
     rw (many, one, v) (scanned-times (length (o .ingredients)) list 1 (o .ingredients) mid read)
 
 pub range-unread : (list : List ℕ) {place : ℕ} → ingredientsStart (readOrder list) ≡ Refused place → Unread ≡ rangeOf (readOrder list)
 unfolding rangeOf ingredientsStart
-range-unread list e = rw (start-refused ingredientsOf firstIngredient (readOrder list) e)
+range-unread list e = rw (start-refused ingredientsOf firstIngredientPlace (readOrder list) e)
 
 -- An answer that goes on is in range where both are.
-or-iff : (a b : Entries) → (orElse a b ≡ InRange) ↔ (a ≡ InRange) × (b ≡ InRange)
+or-iff : (a b : Entries) → (earlier a b ≡ InRange) ↔ (a ≡ InRange) × (b ≡ InRange)
 or-iff InRange b = (λ e. (refl, e), λ h. h .1)
 or-iff (OutOfRange place) b = (λ e. absurd (let z : _≡_ {A = ℕ} 0 1 = cc in omega arith), λ h. h .0)
 or-iff Unread b = (λ e. absurd (let z : _≡_ {A = ℕ} 0 1 = cc in omega arith), λ h. h .0)

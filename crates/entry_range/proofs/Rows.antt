@@ -9,7 +9,7 @@ use lib.Dec.{ltb}
 use lib.ListN.{length, getD, take, drop, replicate, length-drop, length-replicate, getD-replicate}
 use lib.Seq.{length-take-le}
 use Rattle.order.proofs.Segment.{Segment, segment-at}
-use Rattle.entry_range.specs.Range.{firstFailing, orElse}
+use Rattle.entry_range.specs.Range.{firstFailing, earlier}
 use Rattle.entry_range.specs.Search.{highInRow, highInRows, isInRange}
 use Rattle.entry_range.specs.declared.Entries.{Entries}
 use Rattle.entry_range.specs.declared.Entries.the-variants.{InRange, OutOfRange, Unread}
@@ -55,12 +55,12 @@ module _ {list : List ℕ} {start next : ℕ} {u : List ℕ} (s : Segment list s
       (rw length-replicate size)
 
 -- One of the rows that are left to search.
-on-from : (here rest : Entries) → isInRange here ≡ true → orElse here rest ≡ rest
+on-from : (here rest : Entries) → isInRange here ≡ true → earlier here rest ≡ rest
 on-from InRange rest e = refl
 on-from (OutOfRange place) rest e = absurd (false≢true e)
 on-from Unread rest e = absurd (false≢true e)
 
-stop-at : (here rest : Entries) → isInRange here ≡ false → orElse here rest ≡ here
+stop-at : (here rest : Entries) → isInRange here ≡ false → earlier here rest ≡ here
 stop-at InRange rest e = absurd (true≢false e)
 stop-at (OutOfRange place) rest e = refl
 stop-at Unread rest e = refl

@@ -31,16 +31,16 @@ ingredientRange from g =
     firstFailing (λ q. ltb (getD (entriesOf g) q 0) (bound g q)) (entriesFrom from g) (length (entriesOf g)) 0
 
 -- The first answer that is not in range.
-abbrev pub orElse : Entries → Entries → Entries
-orElse InRange next = next
-orElse (OutOfRange place) next = OutOfRange place
-orElse Unread next = Unread
+abbrev pub earlier : Entries → Entries → Entries
+earlier InRange next = next
+earlier (OutOfRange place) next = OutOfRange place
+earlier Unread next = Unread
 
 -- Over ingredients one after the other, the first of which stands at a place.
 abbrev pub ingredientsRange : ℕ → List Ingredient → Entries
 ingredientsRange at [] = InRange
 ingredientsRange at (g ∷ gs) =
-    orElse (ingredientRange (at + 3) g) (ingredientsRange (at + length (writtenIngredient g)) gs)
+    earlier (ingredientRange (at + 3) g) (ingredientsRange (at + length (writtenIngredient g)) gs)
 
 -- The answer to question 3, which is not asked of a list that does not read. The first ingredient stands at place 1.
 unfoldable pub rangeOf : Parsed Order → Entries

@@ -9,7 +9,7 @@ use Rattle.order.specs.Reader.{Parsed, value, refused}
 use Rattle.order.specs.Grammar.{readIngredient}
 use Rattle.order.specs.declared.Located.{Located}
 use Rattle.order.specs.declared.Located.the-variants.{Table, Matrix, Generator, Missing}
-use Rattle.entry_range.specs.Range.{firstFailing, ingredientRange, orElse}
+use Rattle.entry_range.specs.Range.{firstFailing, ingredientRange, earlier}
 use Rattle.entry_range.specs.declared.Entries.{Entries}
 use Rattle.entry_range.specs.declared.Entries.the-variants.{InRange, OutOfRange, Unread}
 
@@ -25,7 +25,7 @@ highInRow list start limits = firstFailing (isBelow list start limits) start (le
 abbrev pub highInRows : List ℕ → ℕ → ℕ → List ℕ → Entries
 highInRows list start zero limits = InRange
 highInRows list start (suc rows) limits =
-    orElse (highInRow list start limits) (highInRows list (start + length limits) rows limits)
+    earlier (highInRow list start limits) (highInRows list (start + length limits) rows limits)
 
 -- Whether no entry was found out of range.
 abbrev pub isInRange : Entries → Bool
@@ -54,7 +54,7 @@ locatedRange list Missing = InRange
 
 -- The same over n ingredients of the list, as far as they read: what one that was read says, then what the rest says.
 abbrev pub checked : ℕ → Parsed Ingredient → (ℕ → Entries) → Entries
-checked from (value g next) rest = orElse (ingredientRange from g) (rest next)
+checked from (value g next) rest = earlier (ingredientRange from g) (rest next)
 checked from (refused place) rest = Unread
 
 abbrev pub scanned : ℕ → List ℕ → ℕ → Entries

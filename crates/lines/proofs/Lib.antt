@@ -1,4 +1,4 @@
 pub mod Cases
-pub mod Digits
+pub mod Decimals
 pub mod Rows
 pub mod Printing

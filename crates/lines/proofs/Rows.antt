@@ -8,14 +8,14 @@ use native.Mathlib.Omega.{arith}
 use lib.ListN.{length, getD, take, drop, length-drop}
 use lib.Seq.{take-suc, take-all}
 use Rattle.buffers.specs.Put.{Put}
-use Rattle.lines.specs.Lines.{digits, spaced, line}
+use Rattle.lines.specs.Lines.{decimalDigits, spaced, line}
 use Rattle.buffers.proofs.Puts.{put-none, put-join, put-length}
 
-spaced-snoc : (ns : List ℕ) (n : ℕ) → spaced (ns ++ (n ∷ [])) ≡ spaced ns ++ (32 ∷ digits n)
-spaced-snoc [] n = append-nil (32 ∷ digits n)
+spaced-snoc : (ns : List ℕ) (n : ℕ) → spaced (ns ++ (n ∷ [])) ≡ spaced ns ++ (32 ∷ decimalDigits n)
+spaced-snoc [] n = append-nil (32 ∷ decimalDigits n)
 spaced-snoc (m ∷ ns) n =
-    ap (λ (l : List ℕ). (32 ∷ digits m) ++ l) (spaced-snoc ns n)
-    ∙ sym (append-assoc (32 ∷ digits m) (spaced ns) (32 ∷ digits n))
+    ap (λ (l : List ℕ). (32 ∷ decimalDigits m) ++ l) (spaced-snoc ns n)
+    ∙ sym (append-assoc (32 ∷ decimalDigits m) (spaced ns) (32 ∷ decimalDigits n))
 
 -- The first n of some numbers are put, each with a space before it and in at most w bytes.
 pub record First (w : ℕ) (ns a : List ℕ) (i n : ℕ) (b : List ℕ) (j : ℕ) : Type 0 where
@@ -34,12 +34,12 @@ module _ {w : ℕ} {ns a : List ℕ} {i n : ℕ} {b : List ℕ} {j : ℕ} (f : F
   first-end room = omega (arith, f .small, put-length (f .put), mul-le-mul-left w (f .among))
 
   -- The next number, where there is one and it has fewer than w digits.
-  module _ (h : n < length ns) (short : length (digits (getD ns n 0)) < w) where
-    pub first-room : i + w * length ns < length a → j + length (digits (getD ns n 0)) < length b
+  module _ (h : n < length ns) (short : length (decimalDigits (getD ns n 0)) < w) where
+    pub first-room : i + w * length ns < length a → j + length (decimalDigits (getD ns n 0)) < length b
     first-room room =
         omega (arith, f .small, put-length (f .put), mul-suc w n, mul-le-mul-left w h)
 
-    pub first-next : {c : List ℕ} {k : ℕ} → Put b j (32 ∷ digits (getD ns n 0)) c k → First w ns a i (n + 1) c k
+    pub first-next : {c : List ℕ} {k : ℕ} → Put b j (32 ∷ decimalDigits (getD ns n 0)) c k → First w ns a i (n + 1) c k
     first-next q =
         record {
           among = omega arith;
@@ -47,13 +47,13 @@ module _ {w : ℕ} {ns a : List ℕ} {i n : ℕ} {b : List ℕ} {j : ℕ} (f : F
           small = rw add-one (omega (arith, f .small, q .ends, mul-suc w n));
         }
 
-pub line-pair : (m n : ℕ) → line (m ∷ n ∷ []) ≡ digits m ++ (32 ∷ digits n) ++ (10 ∷ [])
+pub line-pair : (m n : ℕ) → line (m ∷ n ∷ []) ≡ decimalDigits m ++ (32 ∷ decimalDigits n) ++ (10 ∷ [])
 unfolding line
-line-pair m n = rw (append-nil (32 ∷ digits n))
+line-pair m n = rw (append-nil (32 ∷ decimalDigits n))
 
-pub line-more : (n : ℕ) (ns : List ℕ) → line (n ∷ ns) ≡ digits n ++ (spaced ns ++ (10 ∷ []))
+pub line-more : (n : ℕ) (ns : List ℕ) → line (n ∷ ns) ≡ decimalDigits n ++ (spaced ns ++ (10 ∷ []))
 unfolding line
-line-more n ns = append-assoc (digits n) (spaced ns) (10 ∷ [])
+line-more n ns = append-assoc (decimalDigits n) (spaced ns) (10 ∷ [])
 
 -- A line with no number, and one with a first number and the rest of them.
 rest : (ns : List ℕ) → take (length ns - 1) (drop 1 ns) ≡ drop 1 ns
@@ -68,6 +68,6 @@ module _ {a c : List ℕ} {i k : ℕ} where
   row-none [] h p = p
   row-none (n ∷ ns) h p = absurd (omega arith)
 
-  pub row-some : (ns : List ℕ) {b : List ℕ} {j : ℕ} → (length ns ≡ 0 → ⊥) → Put a i (digits (getD ns 0 0)) b j → Put b j (spaced (take (length ns - 1) (drop 1 ns)) ++ (10 ∷ [])) c k → Put a i (line ns) c k
+  pub row-some : (ns : List ℕ) {b : List ℕ} {j : ℕ} → (length ns ≡ 0 → ⊥) → Put a i (decimalDigits (getD ns 0 0)) b j → Put b j (spaced (take (length ns - 1) (drop 1 ns)) ++ (10 ∷ [])) c k → Put a i (line ns) c k
   row-some [] h p q = absurd (h refl)
   row-some (n ∷ ns) h p q = rw line-more (put-join p (rw (rest (n ∷ ns)) at q))

@@ -13,18 +13,18 @@ digitsWithin (suc most) n =
     cond (ltb n 10) ((48 + n) ∷ []) more
 
 -- The decimal digits of n, with no leading zero; 0 is "0". Digit d is the byte 48 + d.
-unfoldable pub digits : ℕ → List ℕ
-digits n = digitsWithin n n
+unfoldable pub decimalDigits : ℕ → List ℕ
+decimalDigits n = digitsWithin n n
 
 -- Each number with a space before it.
 abbrev pub spaced : List ℕ → List ℕ
 spaced [] = []
-spaced (n ∷ ns) = (32 ∷ digits n) ++ spaced ns
+spaced (n ∷ ns) = (32 ∷ decimalDigits n) ++ spaced ns
 
 -- Numbers with single spaces between.
 abbrev pub row : List ℕ → List ℕ
 row [] = []
-row (n ∷ ns) = digits n ++ spaced ns
+row (n ∷ ns) = decimalDigits n ++ spaced ns
 
 -- "Each line closed by a line feed", byte 10.
 unfoldable pub line : List ℕ → List ℕ

@@ -4,14 +4,14 @@ ghost use Prim.Native.Nat.{_+_, _*_, _≤_, _<_};
 ghost use mathlib.Core.List.{[], _∷_, _++_};
 ghost use lib.ListN.{length};
 ghost use Rattle.buffers.specs.Put.{Put};
-ghost use Rattle.lines.specs.Lines.{digits, spaced, line, refusedLine};
+ghost use Rattle.lines.specs.Lines.{decimalDigits, spaced, line, refusedLine};
 use buffers::put_byte;
 use buffers::put_bytes;
 
 // A number in decimal: the digits before the last are those of a tenth of it.
 pub fn put_number(buf: &mut [u8], at: usize, value: usize) -> usize
-    requires { ⌜ at + length (digits value) ≤ length (now buf) ⌝ }
-    ensures { λ r. ⌜ Put (now (buf .entry)) at (digits value) (now (buf .exit)) r ⌝ }
+    requires { ⌜ at + length (decimalDigits value) ≤ length (now buf) ⌝ }
+    ensures { λ r. ⌜ Put (now (buf .entry)) at (decimalDigits value) (now (buf .exit)) r ⌝ }
 {
     if value < 10 {
         return put_byte(buf, at, 48 + value as u8);
@@ -22,8 +22,8 @@ pub fn put_number(buf: &mut [u8], at: usize, value: usize) -> usize
 
 // A space and a number.
 fn put_spaced(buf: &mut [u8], at: usize, value: usize) -> usize
-    requires { ⌜ at + length (digits value) < length (now buf) ⌝ }
-    ensures { λ r. ⌜ Put (now (buf .entry)) at (32 ∷ digits value) (now (buf .exit)) r ⌝ }
+    requires { ⌜ at + length (decimalDigits value) < length (now buf) ⌝ }
+    ensures { λ r. ⌜ Put (now (buf .entry)) at (32 ∷ decimalDigits value) (now (buf .exit)) r ⌝ }
 {
     let place = put_byte(buf, at, b' ');
     put_number(buf, place, value)

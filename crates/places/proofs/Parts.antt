@@ -16,7 +16,7 @@ use Rattle.order.proofs.ByKind.{between-law}
 use Rattle.order.proofs.IngredientLaw.{ingredient-law}
 use Rattle.order.proofs.StepLaw.{step-law}
 use Rattle.order.proofs.OrderLaw.{ingredients-law, unless-value, read-to-end}
-use Rattle.places.specs.Places.{firstStep}
+use Rattle.places.specs.Places.{firstStepPlace}
 
 -- A value comes of the value before it.
 pub continued : {A B C : Type 0} (p : Parsed A) (k : A → ℕ → Parsed B) {b : B} {next : ℕ} → continue p k ≡ value b next → ((a : A) (mid : ℕ) → p ≡ value a mid → k a mid ≡ value b next → C) → C
@@ -70,18 +70,18 @@ ingredients-parts list o next e found =
     found mid (v ∙ rw (many, one)) (rw (← many, ← one) w)
 
 -- How many steps there are, after the ingredients, and that they read from the place after that number on.
-pub steps-parts : {C : Type 0} (list : List ℕ) (o : Order) (next : ℕ) → readOrder list ≡ value o next → ((mid end : ℕ) → counted 0 32 readIngredient list 0 ≡ value (o .ingredients) mid → allowed (between 1 16) list mid ≡ value (length (o .steps)) (firstStep o) → times (length (o .steps)) readStep list (firstStep o) ≡ value (o .steps) end → C) → C
+pub steps-parts : {C : Type 0} (list : List ℕ) (o : Order) (next : ℕ) → readOrder list ≡ value o next → ((mid end : ℕ) → counted 0 32 readIngredient list 0 ≡ value (o .ingredients) mid → allowed (between 1 16) list mid ≡ value (length (o .steps)) (firstStepPlace o) → times (length (o .steps)) readStep list (firstStepPlace o) ≡ value (o .steps) end → C) → C
 steps-parts list o next e found =
     order-parts list o next e λ mid end first second.
     counted-parts 1 16 readStep list mid second λ n m v w.
     let many : n ≡ length (o .steps) = sym (times-law step-law n .sound list m (o .steps) end w .0 .0) in
     let after = ingredients-law .sound list 0 (o .ingredients) mid first .1 .after in
-    let there : m ≡ firstStep o = omega (arith, between-law 1 16 .sound list mid n m v .1 .after, after) in
+    let there : m ≡ firstStepPlace o = omega (arith, between-law 1 16 .sound list mid n m v .1 .after, after) in
     found mid end first (v ∙ rw (many, there)) (rw (← many, ← there) w)
 
 -- All ingredients, and all steps, read.
 pub ingredients-times : (list : List ℕ) (o : Order) (next : ℕ) → readOrder list ≡ value o next → (end : ℕ) × (times (length (o .ingredients)) readIngredient list 1 ≡ value (o .ingredients) end)
 ingredients-times list o next e = ingredients-parts list o next e λ mid count read. (mid, read)
 
-pub steps-times : (list : List ℕ) (o : Order) (next : ℕ) → readOrder list ≡ value o next → (end : ℕ) × (times (length (o .steps)) readStep list (firstStep o) ≡ value (o .steps) end)
+pub steps-times : (list : List ℕ) (o : Order) (next : ℕ) → readOrder list ≡ value o next → (end : ℕ) × (times (length (o .steps)) readStep list (firstStepPlace o) ≡ value (o .steps) end)
 steps-times list o next e = steps-parts list o next e λ mid end first count read. (end, read)

@@ -11,7 +11,7 @@ use Rattle.order.specs.Answers.{entriesFrom, located, kindOf}
 use Rattle.order.specs.declared.Located.the-variants.{Missing}
 use Rattle.order.proofs.Segment.{Segment, segment-whole, part-left, part-right, segment-numbers, number-is}
 use Rattle.order.proofs.OrderLaw.{reads-iff}
-use Rattle.places.specs.Places.{nthIn, firstStep, ingredientFrom, stepFrom, ingredientAt, stepAt, ingredientIn, stepIn}
+use Rattle.places.specs.Places.{nthIn, firstStepPlace, ingredientFrom, stepFrom, ingredientAt, stepAt, ingredientIn, stepIn}
 use Rattle.places.specs.declared.Placed.the-variants.{Step as Step-at, Missing as Missing-step}
 use Rattle.places.proofs.Lookups.{nth-none}
 
@@ -44,9 +44,9 @@ step-stands list o e k s here found =
     let whole : Segment list 0 (written o) (length list) = rw (reads .2) (segment-whole list) in
     let before = length (o .ingredients) ∷ writtenAll writtenIngredient (o .ingredients) in
     let all = writtenAll writtenStep (o .steps) in
-    let there : 0 + length before + 1 ≡ firstStep o = omega arith in
-    let steps : Segment list (firstStep o) all (length list) = rw there at (part-right (length (o .steps) ∷ []) all (part-right before (length (o .steps) ∷ all) whole)) in
-    value-stands Missing-step stepFrom StepLimits writtenStep (firstStep o) (o .steps) k (reads .1 .each-step) steps here λ place after same limits t.
+    let there : 0 + length before + 1 ≡ firstStepPlace o = omega arith in
+    let steps : Segment list (firstStepPlace o) all (length list) = rw there at (part-right (length (o .steps) ∷ []) all (part-right before (length (o .steps) ∷ all) whole)) in
+    value-stands Missing-step stepFrom StepLimits writtenStep (firstStepPlace o) (o .steps) k (reads .1 .each-step) steps here λ place after same limits t.
     found place after (rw e same) limits t
 
 module _ {list : List ℕ} {place after : ℕ} where
@@ -112,7 +112,7 @@ unfolding stepAt
 step-described list o e k = go (getElem? (o .steps) k) refl
   where
     go : (found : Option Step) → getElem? (o .steps) k ≡ found → stepIn list (stepAt (readOrder list) (suc k)) ≡ getElem? (o .steps) k
-    go none here = rw (e, nth-none Missing-step stepFrom writtenStep (firstStep o) (o .steps) k (past (o .steps) k here), here)
+    go none here = rw (e, nth-none Missing-step stepFrom writtenStep (firstStepPlace o) (o .steps) k (past (o .steps) k here), here)
     go (some s) here =
         step-stands list o e k s here λ place after same limits t.
         rw (same, here) (step-described-at s limits t)

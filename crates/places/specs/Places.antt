@@ -54,17 +54,17 @@ ingredientsOf o = o .ingredients
 abbrev pub stepsOf : Order → List Step
 stepsOf o = o .steps
 
-abbrev pub firstIngredient : Order → ℕ
-firstIngredient o = 1
+abbrev pub firstIngredientPlace : Order → ℕ
+firstIngredientPlace o = 1
 
-abbrev pub firstStep : Order → ℕ
-firstStep o = 1 + length (writtenAll writtenIngredient (o .ingredients)) + 1
+abbrev pub firstStepPlace : Order → ℕ
+firstStepPlace o = 1 + length (writtenAll writtenIngredient (o .ingredients)) + 1
 
 unfoldable pub ingredientsStart : Parsed Order → Number
-ingredientsStart p = startOf ingredientsOf firstIngredient p
+ingredientsStart p = startOf ingredientsOf firstIngredientPlace p
 
 unfoldable pub stepsStart : Parsed Order → Number
-stepsStart p = startOf stepsOf firstStep p
+stepsStart p = startOf stepsOf firstStepPlace p
 
 unfoldable pub ingredientCount : Parsed Order → ℕ
 ingredientCount p = countOf ingredientsOf p
@@ -77,14 +77,14 @@ abbrev pub ingredientFrom : ℕ → Ingredient → Located
 ingredientFrom at g = located (at + 3) g
 
 unfoldable pub ingredientAt : Parsed Order → ℕ → Located
-ingredientAt p i = itemAt Missing ingredientFrom writtenIngredient ingredientsOf firstIngredient p i
+ingredientAt p i = itemAt Missing ingredientFrom writtenIngredient ingredientsOf firstIngredientPlace p i
 
 -- A step by its place: its kind, and where its operands start.
 abbrev pub stepFrom : ℕ → Step → Placed
 stepFrom at s = Step-at (kindOf s) (at + 1)
 
 unfoldable pub stepAt : Parsed Order → ℕ → Placed
-stepAt p k = itemAt Missing-step stepFrom writtenStep stepsOf firstStep p k
+stepAt p k = itemAt Missing-step stepFrom writtenStep stepsOf firstStepPlace p k
 
 -- What stands in any list after k ingredients, or k steps.
 unfoldable pub ingredientAfter : ℕ → List ℕ → ℕ → Located

@@ -10,13 +10,13 @@ use Rattle.words.specs.declared.Scan.{Scan}
 use Rattle.words.specs.declared.Scan.the-variants.{Between}
 use Rattle.words.specs.declared.Scanned.{Scanned}
 use Rattle.words.proofs.Scanning.{any-cut}
-use Rattle.planner.specs.Scanned.{Underway, ScannedWhole}
+use Rattle.planner.specs.Scanned.{ScannedPart, ScannedWhole}
 
-pub underway-start : {state : Scan} (list : List ℕ) → state ≡ Between 0 → Underway list state list
+pub underway-start : {state : Scan} (list : List ℕ) → state ≡ Between 0 → ScannedPart list state list
 underway-start list e = record { pieces = []; reached = ap (λ (s : Scan). (s, list)) e }
 
-module _ {before : List ℕ} {state : Scan} {list : List ℕ} (so-far : Underway before state list) where
-  pub underway-piece : (bytes : List ℕ) {state′ : Scan} {list′ : List ℕ} → (state′, list′) ≡ advanced (state, list) bytes → Underway before state′ list′
+module _ {before : List ℕ} {state : Scan} {list : List ℕ} (so-far : ScannedPart before state list) where
+  pub underway-piece : (bytes : List ℕ) {state′ : Scan} {list′ : List ℕ} → (state′, list′) ≡ advanced (state, list) bytes → ScannedPart before state′ list′
   underway-piece bytes e =
       record {
         pieces = so-far .pieces ++ (bytes ∷ []);

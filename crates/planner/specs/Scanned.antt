@@ -8,7 +8,7 @@ use Rattle.words.specs.declared.Scan.the-variants.{Between}
 use Rattle.words.specs.declared.Scanned.{Scanned}
 
 -- The state of the scanner, and the list, after some pieces of a text from its start.
-pub record Underway (before : List ℕ) (state : Scan) (list : List ℕ) : Type 0 where
+pub record ScannedPart (before : List ℕ) (state : Scan) (list : List ℕ) : Type 0 where
   pub pieces : List (List ℕ)
   pub reached : (state, list) ≡ foldl advanced (Between 0, before) pieces
 

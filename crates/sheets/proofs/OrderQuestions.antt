@@ -28,7 +28,7 @@ use Rattle.order.specs.Order.{Ingredient, table, matrix, generator, Order, All,
 use Rattle.order.specs.Reader.{Parsed, value, refused as unread, when, continue}
 use Rattle.order.specs.Grammar.{atEnd, readParts, readOrder}
 use Rattle.order.specs.Answers.{entriesFrom}
-use Rattle.entry_range.specs.Range.{bound, firstFailing, ingredientRange, orElse as earlier, ingredientsRange}
+use Rattle.entry_range.specs.Range.{bound, firstFailing, ingredientRange, earlier, ingredientsRange}
 use Rattle.entry_range.specs.declared.Entries.{Entries}
 use Rattle.entry_range.specs.declared.Entries.the-variants.{InRange, OutOfRange, Unread}
 use Rattle.sheets.specs.Outcome.{rangeRefusal, tableRefusal, matrixRefusal, generatorRefusal, ingredientRefusal, ingredientsRefusal}

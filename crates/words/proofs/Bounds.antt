@@ -9,7 +9,7 @@ use borrow.Author.Tests.{ltb-true}
 use lib.Dec.{leb, ltb}
 use lib.ListN.{length, length-set}
 use Rattle.words.specs.Words.{isGap, isDigit}
-use Rattle.words.specs.Scanner.{grown, stored, resumed, Progress, stepOf, stepped, advanced, finishOf, finished, place, total, Sound, Ended}
+use Rattle.words.specs.Scanner.{grown, stored, resumed, Progress, stepOf, stepped, advanced, finishOf, finished, place, placeAtEnd, Sound, Ended}
 use Rattle.words.specs.declared.Scan.{Scan}
 use Rattle.words.specs.declared.Scan.the-variants.{Between, Inside, Failed}
 use Rattle.words.specs.declared.Scanned.{Scanned}
@@ -22,7 +22,7 @@ grown-place count value byte =
     let next = value * 10 + (byte - 48) in
     by-cases (isDigit byte && leb next 65535) (λ t. rw t) (λ t. rw t)
 
-resumed-place : (r : Scanned) → place (resumed r) ≡ total r
+resumed-place : (r : Scanned) → place (resumed r) ≡ placeAtEnd r
 resumed-place (Numbers count) = refl
 resumed-place (Refused at) = refl
 

@@ -2,7 +2,7 @@
 use mathlib.Core.Path.{_≡_, refl}
 use mathlib.Core.List.{[], _∷_}
 use Rattle.words.specs.Words.{isGap, words, isDigit, decimal, isNumber, numbers, reading}
-use Rattle.lines.specs.Lines.{digits, line, refusedLine, printed}
+use Rattle.lines.specs.Lines.{decimalDigits, line, refusedLine, printed}
 
 -- "0 2 1 101 4 2 1 2 3" and a line feed.
 input : reading (48 ∷ 32 ∷ 50 ∷ 32 ∷ 49 ∷ 32 ∷ 49 ∷ 48 ∷ 49 ∷ 32 ∷ 52 ∷ 32 ∷ 50 ∷ 32 ∷ 49 ∷ 32 ∷ 50 ∷ 32 ∷ 51 ∷ 10 ∷ []) ≡ numbers (0 ∷ 2 ∷ 1 ∷ 101 ∷ 4 ∷ 2 ∷ 1 ∷ 2 ∷ 3 ∷ [])
@@ -11,10 +11,10 @@ input = refl
 
 -- "4 1", "4", "0", "1", "2", "3", each on a line.
 output : printed 4 (4 ∷ []) (0 ∷ 1 ∷ 2 ∷ 3 ∷ []) ≡ 52 ∷ 32 ∷ 49 ∷ 10 ∷ 52 ∷ 10 ∷ 48 ∷ 10 ∷ 49 ∷ 10 ∷ 50 ∷ 10 ∷ 51 ∷ 10 ∷ []
-unfolding printed line digits
+unfolding printed line decimalDigits
 output = refl
 
 -- "refused 11 1 1024 3 0 0 0" and a line feed.
 refusal : refusedLine (11 ∷ 1 ∷ 1024 ∷ 3 ∷ 0 ∷ 0 ∷ 0 ∷ []) ≡ 114 ∷ 101 ∷ 102 ∷ 117 ∷ 115 ∷ 101 ∷ 100 ∷ 32 ∷ 49 ∷ 49 ∷ 32 ∷ 49 ∷ 32 ∷ 49 ∷ 48 ∷ 50 ∷ 52 ∷ 32 ∷ 51 ∷ 32 ∷ 48 ∷ 32 ∷ 48 ∷ 32 ∷ 48 ∷ 10 ∷ []
-unfolding refusedLine digits
+unfolding refusedLine decimalDigits
 refusal = refl

@@ -6,11 +6,11 @@ use native.Mathlib.Nat.{le-refl}
 use native.Mathlib.Omega.{arith}
 use borrow.Author.Tests.{le-leb, ltb-true, ltb-false}
 use lib.Dec.{ltb}
+use Rattle.lines.proofs.Decimals.{decimal-one, decimal-more}
 use Rattle.words.specs.Words.{isDigit, allDigits, decimal, isNumber}
-use Rattle.lines.specs.Lines.{digits}
+use Rattle.lines.specs.Lines.{decimalDigits}
 use Rattle.lines.proofs.Cases.{by-cases}
 use Rattle.words.proofs.Cuts.{decimal-snoc, digits-snoc}
-use Rattle.lines.proofs.Digits.{digits-one, digits-more}
 
 -- The byte of a digit.
 digit : (d : ℕ) → d < 10 → isDigit (48 + d) ≡ true
@@ -19,15 +19,15 @@ digit d h = rw (le-leb 48 (48 + d) (omega arith), le-leb (48 + d) 57 (omega arit
 
 -- What is read back.
 abbrev Back : ℕ → Type 0
-Back n = (decimal (digits n) ≡ n) × (allDigits (digits n) ≡ true)
+Back n = (decimal (decimalDigits n) ≡ n) × (allDigits (decimalDigits n) ≡ true)
 
 one-back : (n : ℕ) → n < 10 → Back n
 unfolding decimal
-one-back n h = rw (digits-one n h) (omega arith, rw (digit n h))
+one-back n h = rw (decimal-one n h) (omega arith, rw (digit n h))
 
 more-back : (n : ℕ) → 10 ≤ n → Back (n / 10) → Back n
 more-back n h r =
-    rw (digits-more n h)
+    rw (decimal-more n h)
     (rw (decimal-snoc, r .0) (omega arith), rw (digits-snoc, r .1) (digit (n % 10) (omega arith)))
 
 back : (most n : ℕ) → n ≤ most → Back n
@@ -36,9 +36,9 @@ back (suc most) n h =
     by-cases (ltb n 10) (λ e. one-back n (ltb-true n 10 e))
     λ e. let big = ltb-false n 10 e in more-back n big (back most (n / 10) (omega arith))
 
-pub read-back : (n : ℕ) → decimal (digits n) ≡ n
+pub read-back : (n : ℕ) → decimal (decimalDigits n) ≡ n
 read-back n = back n n (le-refl n) .0
 
-pub number-back : (n : ℕ) → n ≤ 65535 → isNumber (digits n) ≡ true
+pub number-back : (n : ℕ) → n ≤ 65535 → isNumber (decimalDigits n) ≡ true
 unfolding isNumber
 number-back n h = rw (back n n (le-refl n) .1, read-back n) (le-leb n 65535 h)

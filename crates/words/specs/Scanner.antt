@@ -63,9 +63,9 @@ place (Between count) = count
 place (Inside count value) = count
 place (Failed at) = at
 
-abbrev pub total : Scanned → ℕ
-total (Numbers count) = count
-total (Refused at) = at
+abbrev pub placeAtEnd : Scanned → ℕ
+placeAtEnd (Numbers count) = count
+placeAtEnd (Refused at) = at
 
 -- A scanner that has read at most 32,768 numbers, or refuses at a place up to that, with a list of so many places: under way, and at its end.
 pub record Sound (places : ℕ) (s : Scan) (list : List ℕ) : Type 0 where
@@ -73,5 +73,5 @@ pub record Sound (places : ℕ) (s : Scan) (list : List ℕ) : Type 0 where
   pub kept : length list ≡ places
 
 pub record Ended (places : ℕ) (r : Scanned) (list : List ℕ) : Type 0 where
-  pub low : total r ≤ 32768
+  pub low : placeAtEnd r ≤ 32768
   pub kept : length list ≡ places

@@ -4,7 +4,6 @@ use Prim.Native.Nat.{ℕ, _<_}
 use native.Mathlib.Omega.{arith}
 use borrow.Fn.Kinds.{In}
 use borrow.Fn.PlainCycle.{Measures, is, falls, and}
-use Rattle.lines.proofs.Digits.{digits-one, digits-more, length-one, length-more}
 use Rattle.buffers.proofs.Puts.{put-join}
 use Rattle.lines.proofs.put_number.Reads as reads
 use Rattle.lines.proofs.put_number.Kinds as kinds
@@ -12,6 +11,7 @@ use Rattle.lines.proofs.+put_number.Lts-put_number as lts
 use Rattle.buffers.proofs.put_byte.Reads as put-byte-reads
 use Rattle.lines.proofs.+put_number.{statement}
 use Rattle.lines.proofs.+put_number.Tie.{close}
+use Rattle.lines.proofs.Decimals.{decimal-one, decimal-more, length-one, length-more}
 
 abbrev μ : Measures 1 kinds.ps ℕ
 μ κs a = a .1 .1 .0
@@ -41,7 +41,7 @@ module _ (t : ℕ) where
   same-length c = c .before .before .put-byte .kept .0
 
   returns : lts.Need-returns (claims t) (given-at t) reads.Post
-  returns c = rw (digits-one _ (c .before .before .before .before .if1 .taken)) (c .before .before .put-byte .ensures)
+  returns c = rw (decimal-one _ (c .before .before .before .before .if1 .taken)) (c .before .before .put-byte .ensures)
 
   -- More digits.
   put-number-requires : lts.Need-put-number-requires (claims t) (given-at t) reads.Post
@@ -61,7 +61,7 @@ module _ (t : ℕ) where
 
   returns-2 : lts.Need-returns-2 (claims t) (given-at t) reads.Post
   returns-2 c =
-      rw (digits-more _ (c .before .before .before .before .before .before .before .before .if1 .left))
+      rw (decimal-more _ (c .before .before .before .before .before .before .before .before .if1 .left))
       (put-join (c .before .before .before .before .before .before .put-number .ensures) (c .before .before .put-byte2 .ensures))
 
 pub +put-number-spec : {M : Type 1} → statement M

@@ -4,12 +4,12 @@ use Prim.Native.Nat.{_-_, _<_, suc-le-suc}
 use native.Mathlib.Omega.{arith}
 use borrow.Author.Needs.{needs}
 use lib.ListN.{length, getD}
-use Rattle.lines.specs.Lines.{digits}
-use Rattle.lines.proofs.Digits.{digits-word}
+use Rattle.lines.specs.Lines.{decimalDigits}
 use Rattle.buffers.proofs.Puts.{put-join, put-length}
 use Rattle.lines.proofs.Rows.{First, first-none, first-all, first-end, first-room, first-next}
 use Rattle.lines.proofs.end_with_numbers.Statement.{statement}
 use Rattle.lines.proofs.end_with_numbers.Tie as tie
+use Rattle.lines.proofs.Decimals.{decimal-word}
 
 abbrev Inv-loop : tie.InvT-loop
 Inv-loop buf₀ at numbers place₀ i₀ buf place i = First 21 numbers buf₀ at i buf place
@@ -26,8 +26,8 @@ mul-put-spaced c = omega arith
 shared-slice-read-put-spaced : tie.Need-shared-slice-read-put-spaced Inv-loop μ-loop
 shared-slice-read-put-spaced c = search needs
 
-short : (c : tie.After-shared-slice-known2 Inv-loop μ-loop) → length (digits (getD (c .before .before .before .before .before .before .args .numbers .now) (c .before .before .before .loop .i) 0)) < 21
-short c = suc-le-suc (digits-word _ (c .shared-slice-known2 .given (c .before .before .before .loop .i) .fits))
+short : (c : tie.After-shared-slice-known2 Inv-loop μ-loop) → length (decimalDigits (getD (c .before .before .before .before .before .before .args .numbers .now) (c .before .before .before .loop .i) 0)) < 21
+short c = suc-le-suc (decimal-word _ (c .shared-slice-known2 .given (c .before .before .before .loop .i) .fits))
 
 put-spaced-requires : tie.Need-put-spaced-requires Inv-loop μ-loop
 put-spaced-requires c κs =

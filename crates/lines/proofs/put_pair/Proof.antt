@@ -1,24 +1,24 @@
 -- `lines::put_pair` meets its contract: the two numbers, each of at most 20 digits, and the line feed.
 use borrow.Author.Needs.{needs}
 use native.Mathlib.Omega.{arith}
-use Rattle.lines.proofs.Digits.{digits-word}
 use Rattle.buffers.proofs.Puts.{put-join}
 use Rattle.lines.proofs.Rows.{line-pair}
 use Rattle.lines.proofs.put_pair.Statement.{statement}
 use Rattle.lines.proofs.put_pair.Tie as tie
+use Rattle.lines.proofs.Decimals.{decimal-word}
 
 put-number-requires : tie.Need-put-number-requires
-put-number-requires c κs = omega (arith, digits-word _ (c .before .before .fits .first .fits))
+put-number-requires c κs = omega (arith, decimal-word _ (c .before .before .fits .first .fits))
 
 put-spaced-requires : tie.Need-put-spaced-requires
 put-spaced-requires c κs =
     let start = c .before .before .before .before .before .before in
-    omega (arith, digits-word _ (start .fits .first .fits), digits-word _ (start .fits .second .fits))
+    omega (arith, decimal-word _ (start .fits .first .fits), decimal-word _ (start .fits .second .fits))
 
 put-byte-requires : tie.Need-put-byte-requires
 put-byte-requires c κs =
     let start = c .before .before .before .before .before .before .before .before .before .before in
-    omega (arith, digits-word _ (start .fits .first .fits), digits-word _ (start .fits .second .fits))
+    omega (arith, decimal-word _ (start .fits .first .fits), decimal-word _ (start .fits .second .fits))
 
 same-length : tie.Need-same-length
 same-length c = search needs

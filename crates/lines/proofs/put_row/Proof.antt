@@ -1,10 +1,10 @@
 -- `lines::put_row` meets its contract: the first number, where there is one, and the end of the line.
 use borrow.Author.Needs.{needs}
 use native.Mathlib.Omega.{arith}
-use Rattle.lines.proofs.Digits.{digits-byte}
 use Rattle.lines.proofs.Rows.{row-none, row-some, rest-length}
 use Rattle.lines.proofs.put_row.Statement.{statement}
 use Rattle.lines.proofs.put_row.Tie as tie
+use Rattle.lines.proofs.Decimals.{decimal-byte}
 
 put-byte-requires : tie.Need-put-byte-requires
 put-byte-requires c κs = search needs
@@ -22,7 +22,7 @@ cast-put-number : tie.Need-cast-put-number
 cast-put-number c = omega (arith, c .shared-slice-known2 .given 0)
 
 put-number-requires : tie.Need-put-number-requires
-put-number-requires c κs = omega (arith, digits-byte _ (c .shared-slice-known2 .given 0 .fits))
+put-number-requires c κs = omega (arith, decimal-byte _ (c .shared-slice-known2 .given 0 .fits))
 
 sub-end-with-cells : tie.Need-sub-end-with-cells
 sub-end-with-cells c = search needs
@@ -36,7 +36,7 @@ part-end-with-cells-end c = search needs
 end-with-cells-requires : tie.Need-end-with-cells-requires
 end-with-cells-requires c κs =
     let turn = c .before .before .before .before .before in
-    omega (arith, digits-byte _ (turn .shared-slice-known2 .given 0 .fits), rest-length (turn .before .before .before .before .before .args .cells .now))
+    omega (arith, decimal-byte _ (turn .shared-slice-known2 .given 0 .fits), rest-length (turn .before .before .before .before .before .args .cells .now))
 
 same-length-2 : tie.Need-same-length-2
 same-length-2 c = search needs

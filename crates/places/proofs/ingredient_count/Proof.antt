@@ -3,7 +3,7 @@ use mathlib.Core.Path.{sym, _∙_}
 use denote.Ref.{now}
 use Rattle.order.specs.Grammar.{readOrder}
 use borrow.Author.Needs.{needs}
-use Rattle.places.specs.Places.{ingredientsOf, firstIngredient, ingredientsStart, ingredientCount}
+use Rattle.places.specs.Places.{ingredientsOf, firstIngredientPlace, ingredientsStart, ingredientCount}
 use Rattle.places.proofs.Lookups.{count-is, count-none}
 use Rattle.places.proofs.ingredient_count.Statement.{statement}
 use Rattle.places.proofs.ingredient_count.Tie as tie
@@ -19,11 +19,11 @@ enum-told c = search needs
 
 returns : tie.Need-returns
 unfolding ingredientsStart ingredientCount
-returns c = count-is ingredientsOf firstIngredient (readOrder (now (c .before .before .before .before .before .args .list))) (sym (c .before .before .before .ingredients-start .ensures) ∙ c .before .q .given .1)
+returns c = count-is ingredientsOf firstIngredientPlace (readOrder (now (c .before .before .before .before .before .args .list))) (sym (c .before .before .before .ingredients-start .ensures) ∙ c .before .q .given .1)
 
 returns-2 : tie.Need-returns-2
 unfolding ingredientsStart ingredientCount
-returns-2 c = count-none ingredientsOf firstIngredient (readOrder (now (c .before .before .before .before .args .list))) (sym (c .before .before .ingredients-start .ensures) ∙ c .enum-told .given .1)
+returns-2 c = count-none ingredientsOf firstIngredientPlace (readOrder (now (c .before .before .before .before .args .list))) (sym (c .before .before .ingredients-start .ensures) ∙ c .enum-told .given .1)
 
 pub ingredient-count-spec : {M : Type 1} → statement M
 ingredient-count-spec =

@@ -3,7 +3,7 @@ use mathlib.Core.Path.{sym, _∙_}
 use denote.Ref.{now}
 use Rattle.order.specs.Grammar.{readOrder}
 use borrow.Author.Needs.{needs}
-use Rattle.places.specs.Places.{stepsOf, firstStep, stepsStart, stepCount}
+use Rattle.places.specs.Places.{stepsOf, firstStepPlace, stepsStart, stepCount}
 use Rattle.places.proofs.Lookups.{count-is, count-none}
 use Rattle.places.proofs.step_count.Statement.{statement}
 use Rattle.places.proofs.step_count.Tie as tie
@@ -19,11 +19,11 @@ enum-told c = search needs
 
 returns : tie.Need-returns
 unfolding stepsStart stepCount
-returns c = count-is stepsOf firstStep (readOrder (now (c .before .before .before .before .before .args .list))) (sym (c .before .before .before .steps-start .ensures) ∙ c .before .z .given .1)
+returns c = count-is stepsOf firstStepPlace (readOrder (now (c .before .before .before .before .before .args .list))) (sym (c .before .before .before .steps-start .ensures) ∙ c .before .z .given .1)
 
 returns-2 : tie.Need-returns-2
 unfolding stepsStart stepCount
-returns-2 c = count-none stepsOf firstStep (readOrder (now (c .before .before .before .before .args .list))) (sym (c .before .before .steps-start .ensures) ∙ c .enum-told .given .1)
+returns-2 c = count-none stepsOf firstStepPlace (readOrder (now (c .before .before .before .before .args .list))) (sym (c .before .before .steps-start .ensures) ∙ c .enum-told .given .1)
 
 pub step-count-spec : {M : Type 1} → statement M
 step-count-spec =
