@@ -10,7 +10,7 @@ use borrow.Author.Tests.{lt-ltb, ltb-true}
 use lib.Dec.{ltb}
 use lib.ListN.{length, getD}
 use Rattle.order.specs.Order.{Ingredient, Order, All, writtenIngredient, entriesOf}
-use Rattle.order.specs.Reader.{value, times}
+use Rattle.order.specs.Reader.{value, repeated}
 use Rattle.order.specs.Grammar.{readIngredient, readOrder, Reads}
 use Rattle.order.specs.Answers.{entriesFrom}
 use Rattle.order.specs.declared.Cursor.{Cursor}
@@ -27,11 +27,11 @@ use Rattle.entry_range.specs.declared.Entries.the-variants.{InRange, Out
 use Rattle.entry_range.proofs.Failing.{failing-none}
 
 -- The walk over n ingredients that read.
-scanned-times : (n : ℕ) (list : List ℕ) (at : ℕ) (gs : List Ingredient) (next : ℕ) → times n readIngredient list at ≡ value gs next → scanned n list at ≡ ingredientsRange at gs
+scanned-times : (n : ℕ) (list : List ℕ) (at : ℕ) (gs : List Ingredient) (next : ℕ) → repeated n readIngredient list at ≡ value gs next → scanned n list at ≡ ingredientsRange at gs
 scanned-times zero list at gs next e = same-value (λ gs next. InRange ≡ ingredientsRange at gs) e refl
 scanned-times (suc n) list at gs next e =
     continued (readIngredient list at) _ e λ g mid v e₁.
-    continued (times n readIngredient list mid) _ e₁ λ gs′ last v′ e₂.
+    continued (repeated n readIngredient list mid) _ e₁ λ gs′ last v′ e₂.
     let after = ingredient-law .sound list at g mid v .1 .after in
     same-value (λ gs next. scanned (suc n) list at ≡ ingredientsRange at gs) e₂
     (rw (v, scanned-times n list mid gs′ last v′, after))

@@ -6,7 +6,7 @@ use Prim.Native.Nat.{ℕ, zero, suc, _+_, _-_, _≤_, _<_}
 use native.Mathlib.Nat.{add-assoc, add-zero, zero-add}
 use native.Mathlib.Omega.{arith}
 use lib.ListN.{getD}
-use Rattle.order.specs.Reader.{Parsed, value, refused, Reader, continue, give, allowed, times}
+use Rattle.order.specs.Reader.{Parsed, value, refused, Reader, continue, give, allowed, repeated}
 use Rattle.order.specs.Order.{Ingredient, Step, total}
 use Rattle.order.specs.Answers.{numberOf, totalOf, walkOf, walkAfter, located, spotOf, kindOf, stageOf}
 use Rattle.order.specs.declared.Cursor.{Cursor}
@@ -143,18 +143,18 @@ walk-cons a (refused place) = refl
 
 -- One of the values that are left to read.
 module _ {A : Type 0} (r : Reader A) (list : List ℕ) (at : ℕ) where
-  pub times-on : (left : ℕ) {a : A} {next : ℕ} → 0 < left → r list at ≡ value a next → walkOf (times left r list at) ≡ walkOf (times (left - 1) r list next)
+  pub times-on : (left : ℕ) {a : A} {next : ℕ} → 0 < left → r list at ≡ value a next → walkOf (repeated left r list at) ≡ walkOf (repeated (left - 1) r list next)
   times-on zero h e = absurd (omega arith)
   times-on (suc left) {a} {next} h e =
       let less : suc left - 1 ≡ left = omega arith in
-      rw (less, e) (walk-cons a (times left r list next))
+      rw (less, e) (walk-cons a (repeated left r list next))
 
-  pub times-refused : (left : ℕ) {place : ℕ} → 0 < left → r list at ≡ refused place → walkOf (times left r list at) ≡ Refused-walk place
+  pub times-refused : (left : ℕ) {place : ℕ} → 0 < left → r list at ≡ refused place → walkOf (repeated left r list at) ≡ Refused-walk place
   unfolding walkOf
   times-refused zero h e = absurd (omega arith)
   times-refused (suc left) h e = rw e
 
-  pub times-done : (left : ℕ) → left ≤ 0 → walkOf (times left r list at) ≡ On (record { at = at })
+  pub times-done : (left : ℕ) → left ≤ 0 → walkOf (repeated left r list at) ≡ On (record { at = at })
   unfolding walkOf
   times-done zero h = refl
   times-done (suc left) h = absurd (omega arith)
@@ -176,18 +176,18 @@ plus-zero (refused place) = refl
 
 -- The same for the sum of the values that are left to read, with k read before.
 module _ (r : Reader ℕ) (list : List ℕ) (at k : ℕ) where
-  pub sum-on : (left : ℕ) {x next : ℕ} → 0 < left → r list at ≡ value x next → plus k (totalOf (times left r list at)) ≡ plus (k + x) (totalOf (times (left - 1) r list next))
+  pub sum-on : (left : ℕ) {x next : ℕ} → 0 < left → r list at ≡ value x next → plus k (totalOf (repeated left r list at)) ≡ plus (k + x) (totalOf (repeated (left - 1) r list next))
   sum-on zero h e = absurd (omega arith)
   sum-on (suc left) {x} {next} h e =
       let less : suc left - 1 ≡ left = omega arith in
-      rw (less, e) (plus-cons k x (times left r list next))
+      rw (less, e) (plus-cons k x (repeated left r list next))
 
-  pub sum-refused : (left : ℕ) {place : ℕ} → 0 < left → r list at ≡ refused place → plus k (totalOf (times left r list at)) ≡ Refused place
+  pub sum-refused : (left : ℕ) {place : ℕ} → 0 < left → r list at ≡ refused place → plus k (totalOf (repeated left r list at)) ≡ Refused place
   unfolding totalOf
   sum-refused zero h e = absurd (omega arith)
   sum-refused (suc left) h e = rw e
 
-  pub sum-done : (left : ℕ) → left ≤ 0 → plus k (totalOf (times left r list at)) ≡ Is k (record { at = at })
+  pub sum-done : (left : ℕ) → left ≤ 0 → plus k (totalOf (repeated left r list at)) ≡ Is k (record { at = at })
   unfolding totalOf
   sum-done zero h = rw add-zero
   sum-done (suc left) h = absurd (omega arith)

@@ -7,7 +7,7 @@ use borrow.Author.Tests.{eqb-true, eqb-false}
 use lib.Dec.{eqb}
 use lib.ListN.{length}
 use Rattle.order.specs.Order.{Between, All}
-use Rattle.order.specs.Reader.{value, Reader, when, allowed, times}
+use Rattle.order.specs.Reader.{value, Reader, when, allowed, repeated}
 use Rattle.order.specs.Grammar.{between, counted}
 use Rattle.order.specs.Answers.{numberOf}
 use Rattle.order.specs.declared.Cursor.{Cursor}
@@ -21,7 +21,7 @@ pub between-law : (low high : ℕ) → Law (allowed (between low high)) (Between
 between-law low high = number-law (between low high) (Between low high) (between-iff low high)
 
 -- How many, and that many values.
-module _ {A : Type 0} {r : Reader A} {P : A → Type 0} {w : List A → List ℕ} (low high : ℕ) (law : (n : ℕ) → Law (times n r) (λ xs. (length xs ≡ n) × All P xs) w) where
+module _ {A : Type 0} {r : Reader A} {P : A → Type 0} {w : List A → List ℕ} (low high : ℕ) (law : (n : ℕ) → Law (repeated n r) (λ xs. (length xs ≡ n) × All P xs) w) where
   counted-sound : (list : List ℕ) (at : ℕ) (xs : List A) (next : ℕ) → counted low high r list at ≡ value xs next → (Between low high (length xs) × All P xs) × Segment list at (length xs ∷ w xs) next
   counted-sound list at xs next e =
       bind-sound (between-law low high) at _ e λ n mid h s e₁.

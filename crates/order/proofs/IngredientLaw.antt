@@ -5,20 +5,20 @@ use Prim.Native.Nat.{ℕ, _*_}
 use native.Mathlib.Omega.{arith}
 use lib.ListN.{length}
 use Rattle.order.specs.Order.{Ingredient, table, matrix, generator, total, All, Between, GeneratorField, FactorWidth, IngredientLimits, writtenIngredient}
-use Rattle.order.specs.Reader.{value, allowed, times}
+use Rattle.order.specs.Reader.{value, allowed, repeated}
 use Rattle.order.specs.Grammar.{between, generatorField, factorWidth, tableBody, matrixBody, generatorBody, body, mostRows, readIngredient}
 use Rattle.order.proofs.Tests.{between-iff, generatorField-iff, factorWidth-iff}
 use Rattle.order.proofs.Segment.{Segment, join}
 use Rattle.order.proofs.Law.{Law, number-law, numbers-law, series-law, same-value, bind-sound, bind-last, bind-complete}
 use Rattle.order.proofs.ByKind.{between-law, After, choose, with-first}
 
-pub levels-law : (n : ℕ) → Law (times n (allowed (between 2 64))) (λ levels. (length levels ≡ n) × All (Between 2 64) levels) (λ levels. levels)
+pub levels-law : (n : ℕ) → Law (repeated n (allowed (between 2 64))) (λ levels. (length levels ≡ n) × All (Between 2 64) levels) (λ levels. levels)
 levels-law n = series-law (between 2 64) (Between 2 64) (between-iff 2 64) n
 
 pub generatorField-law : (t : ℕ) → Law (allowed (generatorField t)) (GeneratorField t) (λ x. x ∷ [])
 generatorField-law t = number-law (generatorField t) (GeneratorField t) (generatorField-iff t)
 
-pub widths-law : (s n : ℕ) → Law (times n (allowed (factorWidth s))) (λ us. (length us ≡ n) × All (FactorWidth s) us) (λ us. us)
+pub widths-law : (s n : ℕ) → Law (repeated n (allowed (factorWidth s))) (λ us. (length us ≡ n) × All (FactorWidth s) us) (λ us. us)
 widths-law s n = series-law (factorWidth s) (FactorWidth s) (factorWidth-iff s) n
 
 -- What is read after kind, rows and columns.

@@ -11,7 +11,7 @@ use lib.Dec.{ltb, leb}
 use lib.ListN.{length, getD, take, drop, length-append, length-drop, take-append-drop}
 use lib.Seq.{drop-drop, length-take-le}
 use Rattle.order.specs.Order.{All, writtenAll}
-use Rattle.order.specs.Reader.{Parsed, value, refused, Reader, when, continue, allowed, numbers, times}
+use Rattle.order.specs.Reader.{Parsed, value, refused, Reader, when, continue, allowed, numbers, repeated}
 use Rattle.order.proofs.Segment.{Segment, segment-none, join, part-left, part-right, segment-numbers, one-number, number-in, number-is}
 
 -- A reader reads a from at up to next exactly where P holds of a and the numbers w a stand from at up to next.
@@ -95,14 +95,14 @@ module _ {A B : Type 0} {r : Reader A} {P : A → Type 0} {w : A → List ℕ} (
 
 -- n times what a reader with a law reads.
 module _ {A : Type 0} {r : Reader A} {P : A → Type 0} {w : A → List ℕ} (law : Law r P w) where
-  times-complete : (n : ℕ) (list : List ℕ) (at : ℕ) (xs : List A) (next : ℕ) → (length xs ≡ n) × All P xs → Segment list at (writtenAll w xs) next → times n r list at ≡ value xs next
+  times-complete : (n : ℕ) (list : List ℕ) (at : ℕ) (xs : List A) (next : ℕ) → (length xs ≡ n) × All P xs → Segment list at (writtenAll w xs) next → repeated n r list at ≡ value xs next
   times-complete zero list at [] next h s = ap (value []) (sym (add-zero at) ∙ sym (s .after))
   times-complete zero list at (x ∷ xs) next h s = absurd (omega (arith, h .0))
   times-complete (suc n) list at [] next h s = absurd (omega (arith, h .0))
   times-complete (suc n) list at (x ∷ xs) next (long, (p, ps)) s =
       bind-complete law _ x (writtenAll w xs) p s λ mid t. rw (times-complete n list mid xs next (suc-inj long, ps) t)
 
-  times-sound : (n : ℕ) (list : List ℕ) (at : ℕ) (xs : List A) (next : ℕ) → times n r list at ≡ value xs next → ((length xs ≡ n) × All P xs) × Segment list at (writtenAll w xs) next
+  times-sound : (n : ℕ) (list : List ℕ) (at : ℕ) (xs : List A) (next : ℕ) → repeated n r list at ≡ value xs next → ((length xs ≡ n) × All P xs) × Segment list at (writtenAll w xs) next
   times-sound zero list at xs next e =
       same-value (λ xs next. ((length xs ≡ 0) × All P xs) × Segment list at (writtenAll w xs) next) e ((refl, tt), segment-none list at)
   times-sound (suc n) list at xs next e =
@@ -110,7 +110,7 @@ module _ {A : Type 0} {r : Reader A} {P : A → Type 0} {w : A → List ℕ} (la
       bind-sound (record { sound = times-sound n; complete = times-complete n }) mid _ e₁ λ ys last hs t e₂.
       same-value (λ xs next. ((length xs ≡ suc n) × All P xs) × Segment list at (writtenAll w xs) next) e₂ ((ap suc (hs .0), (h, hs .1)), join s t)
 
-  pub times-law : (n : ℕ) → Law (times n r) (λ xs. (length xs ≡ n) × All P xs) (writtenAll w)
+  pub times-law : (n : ℕ) → Law (repeated n r) (λ xs. (length xs ≡ n) × All P xs) (writtenAll w)
   times-law n = record { sound = times-sound n; complete = times-complete n }
 
 -- The numbers of a list, one after the other, are the list.
@@ -120,7 +120,7 @@ singles (x ∷ xs) = ap {B = List ℕ} (λ ys. x ∷ ys) (singles xs)
 
 -- n numbers that pass a test.
 module _ (test : ℕ → Bool) (P : ℕ → Type 0) (reflects : (x : ℕ) → (test x ≡ true) ↔ P x) where
-  pub series-law : (n : ℕ) → Law (times n (allowed test)) (λ xs. (length xs ≡ n) × All P xs) (λ xs. xs)
+  pub series-law : (n : ℕ) → Law (repeated n (allowed test)) (λ xs. (length xs ≡ n) × All P xs) (λ xs. xs)
   series-law n =
       let law = times-law (number-law test P reflects) n in
       record {

@@ -6,7 +6,7 @@ use Prim.Native.Nat.{ℕ, _+_}
 use native.Mathlib.Omega.{arith}
 use lib.ListN.{length}
 use Rattle.order.specs.Order.{Step, TAKE, FIELD, SUM, MERGE, SPLIT, All, Between, MergePrime, IngredientNumber, StepLimits, writtenStep}
-use Rattle.order.specs.Reader.{value, allowed, times}
+use Rattle.order.specs.Reader.{value, allowed, repeated}
 use Rattle.order.specs.Grammar.{between, mergePrime, ingredientNumber, noneOrIngredient, counted, readNaming, readSum, readMerge, readSplit, readStep}
 use Rattle.order.proofs.Tests.{between-iff, mergePrime-iff, ingredientNumber-iff, noneOrIngredient-iff}
 use Rattle.order.proofs.Segment.{Segment, join}
@@ -40,7 +40,7 @@ sum-sound list at g next e =
 pub mergePrime-law : Law (allowed mergePrime) MergePrime (λ x. x ∷ [])
 mergePrime-law = number-law mergePrime MergePrime mergePrime-iff
 
-members-law : (n : ℕ) → Law (times n (allowed (between 1 128))) (λ cs. (length cs ≡ n) × All (Between 1 128) cs) (λ cs. cs)
+members-law : (n : ℕ) → Law (repeated n (allowed (between 1 128))) (λ cs. (length cs ≡ n) × All (Between 1 128) cs) (λ cs. cs)
 members-law n = series-law (between 1 128) (Between 1 128) (between-iff 1 128) n
 
 merge-sound : (list : List ℕ) (at : ℕ) (g : Step) (next : ℕ) → readMerge list at ≡ value g next → After StepLimits writtenStep (4 ∷ []) list at g next

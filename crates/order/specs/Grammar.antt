@@ -6,7 +6,7 @@ use Prim.Native.Nat.{ℕ, _+_, _*_, _^_}
 use lib.ListN.{length}
 use lib.Dec.{ltb, leb, eqb}
 use Rattle.order.specs.Order.{Ingredient, table, matrix, generator, Step, TAKE, FIELD, SUM, MERGE, SPLIT, Order, total}
-use Rattle.order.specs.Reader.{Parsed, value, refused, Reader, when, _>>=_, give, allowed, numbers, times}
+use Rattle.order.specs.Reader.{Parsed, value, refused, Reader, when, _>>=_, give, allowed, numbers, repeated}
 
 -- Tests of single numbers, by the limits of specs/Order.antt: `Between`, `GeneratorField`, `FactorWidth`, `MergePrime` and `IngredientNumber`.
 abbrev pub between : ℕ → ℕ → ℕ → Bool
@@ -32,12 +32,12 @@ noneOrIngredient k = eqb k 0 || ingredientNumber k
 abbrev pub counted : {A : Type 0} → ℕ → ℕ → Reader A → Reader (List A)
 counted low high r = do
   n ← allowed (between low high)
-  times n r
+  repeated n r
 
 -- The ingredients by kind, from the number after rows and columns on.
 unfoldable pub tableBody : ℕ → ℕ → Reader Ingredient
 tableBody rows columns = do
-  levels ← times columns (allowed (between 2 64))
+  levels ← repeated columns (allowed (between 2 64))
   entries ← numbers (rows * columns)
   give (table rows levels entries)
 
@@ -51,7 +51,7 @@ matrixBody rows columns = do
 unfoldable pub generatorBody : ℕ → ℕ → Reader Ingredient
 generatorBody t n = do
   s ← allowed (generatorField t)
-  widths ← times n (allowed (factorWidth s))
+  widths ← repeated n (allowed (factorWidth s))
   entries ← numbers (t * total widths)
   give (generator t s widths entries)
 
@@ -87,7 +87,7 @@ readSum = do
 unfoldable pub readMerge : Reader Step
 readMerge = do
   p ← allowed mergePrime
-  cs ← times (p + 1) (allowed (between 1 128))
+  cs ← repeated (p + 1) (allowed (between 1 128))
   give (MERGE p cs)
 
 unfoldable pub readSplit : Reader Step

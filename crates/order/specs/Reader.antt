@@ -45,9 +45,9 @@ unfoldable pub numbers : ℕ → Reader (List ℕ)
 numbers n list at = when (leb n (length list - at)) (value (take n (drop at list)) (at + n)) (refused (length list))
 
 -- n times what r reads.
-abbrev pub times : {A : Type 0} → ℕ → Reader A → Reader (List A)
-times zero r = give []
-times (suc n) r = do
+abbrev pub repeated : {A : Type 0} → ℕ → Reader A → Reader (List A)
+repeated zero r = give []
+repeated (suc n) r = do
   x ← r
-  xs ← times n r
+  xs ← repeated n r
   give (x ∷ xs)

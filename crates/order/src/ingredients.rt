@@ -1,7 +1,7 @@
 // The ingredients: each is read up to its entries, which are passed over at once.
 ghost use mathlib.Core.Path.{_≡_};
 ghost use Prim.Native.Nat.{_+_, _≤_};
-ghost use Rattle.order.specs.Reader.{times};
+ghost use Rattle.order.specs.Reader.{repeated};
 ghost use Rattle.order.specs.Grammar.{counted, tableBody, matrixBody, generatorBody, body, mostRows, readIngredient};
 ghost use Rattle.order.specs.Answers.{spotOf, walkOf};
 use crate::Cursor;
@@ -129,7 +129,7 @@ pub fn ingredient(list: &[u16], c: Cursor) -> Spot
 
 // n ingredients.
 pub fn ingredients(list: &[u16], start: Cursor, n: usize) -> Walk
-    ensures { λ r. ⌜ r ≡ walkOf (times n readIngredient (now (list .entry)) (start .at)) ⌝ }
+    ensures { λ r. ⌜ r ≡ walkOf (repeated n readIngredient (now (list .entry)) (start .at)) ⌝ }
 {
     let mut c = start;
     let mut left = n;

@@ -2,7 +2,7 @@
 ghost use mathlib.Core.Path.{_≡_};
 ghost use Prim.Native.Nat.{_-_, _≤_};
 ghost use lib.ListN.{length, getD};
-ghost use Rattle.order.specs.Reader.{allowed, numbers, times};
+ghost use Rattle.order.specs.Reader.{allowed, numbers, repeated};
 ghost use Rattle.order.specs.Grammar.{between, generatorField, factorWidth, mergePrime, ingredientNumber, noneOrIngredient};
 ghost use Rattle.order.specs.Answers.{numberOf, totalOf, walkOf};
 use crate::Cursor;
@@ -179,7 +179,7 @@ pub(crate) fn skip(list: &[u16], c: Cursor, n: usize) -> Walk
 
 // n numbers from low to high.
 pub(crate) fn series(list: &[u16], start: Cursor, n: usize, low: usize, high: usize) -> Walk
-    ensures { λ r. ⌜ r ≡ walkOf (times n (allowed (between low high)) (now (list .entry)) (start .at)) ⌝ }
+    ensures { λ r. ⌜ r ≡ walkOf (repeated n (allowed (between low high)) (now (list .entry)) (start .at)) ⌝ }
 {
     let mut c = start;
     let mut left = n;
@@ -197,7 +197,7 @@ pub(crate) fn series(list: &[u16], start: Cursor, n: usize, low: usize, high: us
 
 // n numbers of ingredients.
 pub(crate) fn ingredient_numbers(list: &[u16], start: Cursor, n: usize) -> Walk
-    ensures { λ r. ⌜ r ≡ walkOf (times n (allowed ingredientNumber) (now (list .entry)) (start .at)) ⌝ }
+    ensures { λ r. ⌜ r ≡ walkOf (repeated n (allowed ingredientNumber) (now (list .entry)) (start .at)) ⌝ }
 {
     let mut c = start;
     let mut left = n;
@@ -216,7 +216,7 @@ pub(crate) fn ingredient_numbers(list: &[u16], start: Cursor, n: usize) -> Walk
 // The widths of n factors over a field of s elements, and their sum.
 pub(crate) fn widths(list: &[u16], start: Cursor, n: usize, s: usize) -> Number
     requires { ⌜ ((2 ≤ s) × (s ≤ 9)) × (n ≤ 128) ⌝ }
-    ensures { λ r. ⌜ r ≡ totalOf (times n (allowed (factorWidth s)) (now (list .entry)) (start .at)) ⌝ }
+    ensures { λ r. ⌜ r ≡ totalOf (repeated n (allowed (factorWidth s)) (now (list .entry)) (start .at)) ⌝ }
 {
     let mut c = start;
     let mut left = n;

@@ -1,7 +1,7 @@
 // The steps: each is read with its operands.
 ghost use mathlib.Core.Path.{_≡_};
 ghost use Prim.Native.Nat.{_+_};
-ghost use Rattle.order.specs.Reader.{allowed, times};
+ghost use Rattle.order.specs.Reader.{allowed, repeated};
 ghost use Rattle.order.specs.Grammar.{ingredientNumber, counted, readSum, readMerge, readSplit, stepOf, readStep};
 ghost use Rattle.order.specs.Answers.{stageOf, walkAfter, walkOf};
 use crate::Cursor;
@@ -97,7 +97,7 @@ pub fn step(list: &[u16], c: Cursor) -> Stage
 
 // n steps.
 pub fn steps(list: &[u16], start: Cursor, n: usize) -> Walk
-    ensures { λ r. ⌜ r ≡ walkOf (times n readStep (now (list .entry)) (start .at)) ⌝ }
+    ensures { λ r. ⌜ r ≡ walkOf (repeated n readStep (now (list .entry)) (start .at)) ⌝ }
 {
     let mut c = start;
     let mut left = n;

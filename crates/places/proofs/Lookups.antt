@@ -5,7 +5,7 @@ use Prim.Native.Nat.{ℕ, zero, suc, _+_, _-_, _≤_, _<_}
 use native.Mathlib.Omega.{arith}
 use lib.ListN.{length}
 use Rattle.order.specs.Order.{Order}
-use Rattle.order.specs.Reader.{Parsed, value, refused, Reader, continue, allowed, times}
+use Rattle.order.specs.Reader.{Parsed, value, refused, Reader, continue, allowed, repeated}
 use Rattle.order.specs.Grammar.{between, counted, readIngredient, readOrder}
 use Rattle.order.specs.Answers.{numberOf, walkOf, readingOf}
 use Rattle.order.specs.declared.Cursor.{Cursor}
@@ -24,18 +24,18 @@ module _ {A R : Type 0} (none : R) (f : ℕ → A → R) {r : Reader A} {P : A �
   after-cons g a (refused place) = refl
 
   -- Where n values read, the one after k of them is value k.
-  pub nth-read : (n k : ℕ) (list : List ℕ) (at : ℕ) (xs : List A) (next : ℕ) → times n r list at ≡ value xs next → k < n → nthRead none f r k list at ≡ nthIn none f w at xs k
+  pub nth-read : (n k : ℕ) (list : List ℕ) (at : ℕ) (xs : List A) (next : ℕ) → repeated n r list at ≡ value xs next → k < n → nthRead none f r k list at ≡ nthIn none f w at xs k
   nth-read zero k list at xs next e h = absurd (omega arith)
   nth-read (suc n) zero list at xs next e h =
       continued (r list at) _ e λ x mid v e₁.
-      continued (times n r list mid) _ e₁ λ ys last v₁ e₂.
+      continued (repeated n r list mid) _ e₁ λ ys last v₁ e₂.
       same-value (λ xs next. nthRead none f r 0 list at ≡ nthIn none f w at xs 0) e₂ (rw v)
   nth-read (suc n) (suc k) list at xs next e h =
       continued (r list at) _ e λ x mid v e₁.
-      continued (times n r list mid) _ e₁ λ ys last v₁ e₂.
+      continued (repeated n r list mid) _ e₁ λ ys last v₁ e₂.
       let after = law .sound list at x mid v .1 .after in
       same-value (λ xs next. nthRead none f r (suc k) list at ≡ nthIn none f w at xs (suc k)) e₂
-      (rw v (after-cons (λ mid. orNone none (λ x next. f mid x) (r list mid)) x (times k r list mid) ∙ nth-read n k list mid ys last v₁ (omega arith) ∙ rw after))
+      (rw v (after-cons (λ mid. orNone none (λ x next. f mid x) (r list mid)) x (repeated k r list mid) ∙ nth-read n k list mid ys last v₁ (omega arith) ∙ rw after))
 
 -- Past the last value there is none.
 pub nth-none : {A R : Type 0} (none : R) (f : ℕ → A → R) (w : A → List ℕ) (at : ℕ) (xs : List A) (k : ℕ) → length xs ≤ k → nthIn none f w at xs k ≡ none
@@ -82,7 +82,7 @@ module _ {A : Type 0} (items : Order → List A) (place : Order → ℕ) where
         rw v (sym (from-one none (nthIn none f w (place o) (items o)) i (omega arith) ∙ nth-none none f w (place o) (items o) (i - 1) (omega arith)))
 
     -- An item is found after those before it, if all of them read.
-    pub item-found : {r : Reader A} {P : A → Type 0} (law : Law r P w) (list : List ℕ) (p : Parsed Order) (i : ℕ) {q : ℕ} {next : Cursor} → startOf items place p ≡ Is q next → ((o : Order) (last : ℕ) → p ≡ value o last → (end : ℕ) × (times (length (items o)) r list (place o) ≡ value (items o) end)) → 0 < i → i ≤ q → nthRead none f r (i - 1) list (next .at) ≡ itemAt none f w items place p i
+    pub item-found : {r : Reader A} {P : A → Type 0} (law : Law r P w) (list : List ℕ) (p : Parsed Order) (i : ℕ) {q : ℕ} {next : Cursor} → startOf items place p ≡ Is q next → ((o : Order) (last : ℕ) → p ≡ value o last → (end : ℕ) × (repeated (length (items o)) r list (place o) ≡ value (items o) end)) → 0 < i → i ≤ q → nthRead none f r (i - 1) list (next .at) ≡ itemAt none f w items place p i
     item-found {r} law list p i e reads low high =
         start-order p e λ o last v many there.
         let read = reads o last v in
@@ -92,14 +92,14 @@ module _ {A : Type 0} (items : Order → List A) (place : Order → ℕ) where
 
 -- What stands after k values that read.
 module _ {A R : Type 0} (none : R) (f : ℕ → A → R) (r : Reader A) (k : ℕ) (list : List ℕ) (at : ℕ) where
-  pub nth-found : {next : Cursor} {x : A} {last : ℕ} → walkOf (times k r list at) ≡ On next → r list (next .at) ≡ value x last → f (next .at) x ≡ nthRead none f r k list at
-  nth-found e v = walk-value (times k r list at) e λ xs v₁. rw (v₁, v)
+  pub nth-found : {next : Cursor} {x : A} {last : ℕ} → walkOf (repeated k r list at) ≡ On next → r list (next .at) ≡ value x last → f (next .at) x ≡ nthRead none f r k list at
+  nth-found e v = walk-value (repeated k r list at) e λ xs v₁. rw (v₁, v)
 
-  pub nth-refused : {next : Cursor} {place : ℕ} → walkOf (times k r list at) ≡ On next → r list (next .at) ≡ refused place → none ≡ nthRead none f r k list at
-  nth-refused e v = walk-value (times k r list at) e λ xs v₁. rw (v₁, v)
+  pub nth-refused : {next : Cursor} {place : ℕ} → walkOf (repeated k r list at) ≡ On next → r list (next .at) ≡ refused place → none ≡ nthRead none f r k list at
+  nth-refused e v = walk-value (repeated k r list at) e λ xs v₁. rw (v₁, v)
 
-  pub nth-stopped : {place : ℕ} → walkOf (times k r list at) ≡ Refused-walk place → none ≡ nthRead none f r k list at
-  nth-stopped e = rw (walk-refused (times k r list at) e)
+  pub nth-stopped : {place : ℕ} → walkOf (repeated k r list at) ≡ Refused-walk place → none ≡ nthRead none f r k list at
+  nth-stopped e = rw (walk-refused (repeated k r list at) e)
 
 -- Of a list that reads: the numbers of ingredients and of steps, and the places of the first.
 module _ (list : List ℕ) where

@@ -6,7 +6,7 @@ use native.Mathlib.Omega.{arith}
 use lib.Dec.{ltb}
 use lib.ListN.{length}
 use Rattle.order.specs.Order.{Order}
-use Rattle.order.specs.Reader.{Parsed, value, refused, Reader, continue, allowed, times}
+use Rattle.order.specs.Reader.{Parsed, value, refused, Reader, continue, allowed, repeated}
 use Rattle.order.specs.Grammar.{between, counted, readIngredient, readStep, readParts, readOrder}
 use Rattle.order.specs.Grammar
 use Rattle.order.specs.Answers.{readingOf}
@@ -24,7 +24,7 @@ continued (value a mid) k e found = found a mid refl e
 continued (refused place) k e found = absurd (refused-no-value e)
 
 -- How many there are, and they.
-pub counted-parts : {A C : Type 0} (low high : ℕ) (r : Reader A) (list : List ℕ) (at : ℕ) {xs : List A} {next : ℕ} → counted low high r list at ≡ value xs next → ((n mid : ℕ) → allowed (between low high) list at ≡ value n mid → times n r list mid ≡ value xs next → C) → C
+pub counted-parts : {A C : Type 0} (low high : ℕ) (r : Reader A) (list : List ℕ) (at : ℕ) {xs : List A} {next : ℕ} → counted low high r list at ≡ value xs next → ((n mid : ℕ) → allowed (between low high) list at ≡ value n mid → repeated n r list mid ≡ value xs next → C) → C
 counted-parts low high r list at e found = continued (allowed (between low high) list at) _ e found
 
 -- The ingredients and the steps.
@@ -61,7 +61,7 @@ reading-refused (value o next) e = absurd (let z : _≡_ {A = ℕ} 0 1 = cc in o
 reading-refused (refused there) {place} e = let same : there ≡ place = cc in rw same
 
 -- How many ingredients there are, and that they read from place 1 on.
-pub ingredients-parts : {C : Type 0} (list : List ℕ) (o : Order) (next : ℕ) → readOrder list ≡ value o next → ((mid : ℕ) → allowed (between 0 32) list 0 ≡ value (length (o .ingredients)) 1 → times (length (o .ingredients)) readIngredient list 1 ≡ value (o .ingredients) mid → C) → C
+pub ingredients-parts : {C : Type 0} (list : List ℕ) (o : Order) (next : ℕ) → readOrder list ≡ value o next → ((mid : ℕ) → allowed (between 0 32) list 0 ≡ value (length (o .ingredients)) 1 → repeated (length (o .ingredients)) readIngredient list 1 ≡ value (o .ingredients) mid → C) → C
 ingredients-parts list o next e found =
     order-parts list o next e λ mid end first second.
     counted-parts 0 32 readIngredient list 0 first λ n m v w.
@@ -70,7 +70,7 @@ ingredients-parts list o next e found =
     found mid (v ∙ rw (many, one)) (rw (← many, ← one) w)
 
 -- How many steps there are, after the ingredients, and that they read from the place after that number on.
-pub steps-parts : {C : Type 0} (list : List ℕ) (o : Order) (next : ℕ) → readOrder list ≡ value o next → ((mid end : ℕ) → counted 0 32 readIngredient list 0 ≡ value (o .ingredients) mid → allowed (between 1 16) list mid ≡ value (length (o .steps)) (firstStepPlace o) → times (length (o .steps)) readStep list (firstStepPlace o) ≡ value (o .steps) end → C) → C
+pub steps-parts : {C : Type 0} (list : List ℕ) (o : Order) (next : ℕ) → readOrder list ≡ value o next → ((mid end : ℕ) → counted 0 32 readIngredient list 0 ≡ value (o .ingredients) mid → allowed (between 1 16) list mid ≡ value (length (o .steps)) (firstStepPlace o) → repeated (length (o .steps)) readStep list (firstStepPlace o) ≡ value (o .steps) end → C) → C
 steps-parts list o next e found =
     order-parts list o next e λ mid end first second.
     counted-parts 1 16 readStep list mid second λ n m v w.
@@ -80,8 +80,8 @@ steps-parts list o next e found =
     found mid end first (v ∙ rw (many, there)) (rw (← many, ← there) w)
 
 -- All ingredients, and all steps, read.
-pub ingredients-times : (list : List ℕ) (o : Order) (next : ℕ) → readOrder list ≡ value o next → (end : ℕ) × (times (length (o .ingredients)) readIngredient list 1 ≡ value (o .ingredients) end)
+pub ingredients-times : (list : List ℕ) (o : Order) (next : ℕ) → readOrder list ≡ value o next → (end : ℕ) × (repeated (length (o .ingredients)) readIngredient list 1 ≡ value (o .ingredients) end)
 ingredients-times list o next e = ingredients-parts list o next e λ mid count read. (mid, read)
 
-pub steps-times : (list : List ℕ) (o : Order) (next : ℕ) → readOrder list ≡ value o next → (end : ℕ) × (times (length (o .steps)) readStep list (firstStepPlace o) ≡ value (o .steps) end)
+pub steps-times : (list : List ℕ) (o : Order) (next : ℕ) → readOrder list ≡ value o next → (end : ℕ) × (repeated (length (o .steps)) readStep list (firstStepPlace o) ≡ value (o .steps) end)
 steps-times list o next e = steps-parts list o next e λ mid end first count read. (end, read)

@@ -5,7 +5,7 @@ use Prim.Native.Nat.{ℕ, zero, suc, _+_, _*_}
 use lib.Dec.{eqb}
 use lib.ListN.{length, getD, take, drop}
 use Rattle.order.specs.Order.{Ingredient, table, matrix, generator, Step, TAKE, FIELD, SUM, MERGE, SPLIT, Order, writtenIngredient, writtenStep, writtenAll}
-use Rattle.order.specs.Reader.{Parsed, value, refused, Reader, when, times}
+use Rattle.order.specs.Reader.{Parsed, value, refused, Reader, when, repeated}
 use Rattle.order.specs.Grammar.{readIngredient, readStep}
 use Rattle.order.specs.Answers.{located, kindOf}
 use Rattle.order.specs.declared.Number.{Number}
@@ -33,7 +33,7 @@ nthIn other f w at (x ∷ xs) (suc k) = nthIn other f w (at + length (w x)) xs k
 
 -- The same in any list, after k values that r reads from place at on.
 abbrev pub nthRead : {A R : Type 0} → R → (ℕ → A → R) → Reader A → ℕ → List ℕ → ℕ → R
-nthRead other f r k list at = orNone other (λ xs mid. orNone other (λ x next. f mid x) (r list mid)) (times k r list at)
+nthRead other f r k list at = orNone other (λ xs mid. orNone other (λ x next. f mid x) (r list mid)) (repeated k r list at)
 
 -- Of an order that was read, whose items of one sort stand from a place on: how many items there are, with the place of the first; their
 -- number; and item number i, from 1.

@@ -5,7 +5,7 @@ use mathlib.Core.List.{List, [], _∷_, _++_, foldl-append, flatten}
 use Prim.Native.Nat.{ℕ}
 use lib.ListN.{length}
 use Rattle.words.specs.Words.{reading}
-use Rattle.words.specs.Scanner.{Progress, advanced, finished, readingOf}
+use Rattle.words.specs.Scanner.{Progress, advanced, finished, scannedReading}
 use Rattle.words.specs.declared.Scan.{Scan}
 use Rattle.words.specs.declared.Scan.the-variants.{Between}
 use Rattle.words.specs.declared.Scanned.{Scanned}
@@ -30,5 +30,5 @@ module _ {before : List ℕ} {state : Scan} {list : List ℕ} (so-far : ScannedP
   underway-end e = record { pieces = so-far .pieces; scanned = e ∙ ap finished (so-far .reached) }
 
 pub scanned-reading : {before : List ℕ} {answer : Scanned} {list : List ℕ} → length before ≡ 32768 → (whole : ScannedWhole before answer list)
-    → readingOf (answer, list) ≡ reading (flatten (whole .pieces))
-scanned-reading {before = before} places whole = ap readingOf (whole .scanned) ∙ any-cut before places (whole .pieces)
+    → scannedReading (answer, list) ≡ reading (flatten (whole .pieces))
+scanned-reading {before = before} places whole = ap scannedReading (whole .scanned) ∙ any-cut before places (whole .pieces)

@@ -13,7 +13,7 @@ use Rattle.sheets.specs.Refusals.{numbered}
 use Rattle.sheets.specs.declared.answer.Refusal.{Refusal}
 use Rattle.sheets.specs.declared.answer.Answer.{Answer}
 use Rattle.sheets.specs.declared.answer.Answer.the-variants.{Filled, Refused}
-use Rattle.report.specs.Report.{refusalLine, answerLines, lineCount, Fitting, Printable}
+use Rattle.report.specs.Report.{refusalLine, answerLines, lineCount, TableInBuffers, Printable}
 
 upTo-length : (n : ℕ) (f : ℕ → List ℕ) → length (upTo n f) ≡ n
 upTo-length zero f = refl
@@ -39,7 +39,7 @@ third (suc zero) a b = absurd (b refl)
 third (suc (suc i)) a b = omega arith
 
 -- The lines of a table of so many runs and columns.
-module _ {runs columns : ℕ} {levels cells : List ℕ} (fits : Fitting runs columns levels cells) where
+module _ {runs columns : ℕ} {levels cells : List ℕ} (fits : TableInBuffers runs columns levels cells) where
   many : length (take columns levels) ≡ columns
   many = length-take-le columns levels (fits .levels-there)
 
@@ -86,7 +86,7 @@ put-refusal-line why e p = rw e at p
 
 -- A line of an answer, by cases.
 pub filled-fits : {answer : Answer} {runs columns : ℕ} (levels cells : List ℕ) → answer ≡ Filled runs columns → Printable answer levels cells
-    → Fitting runs columns levels cells
+    → TableInBuffers runs columns levels cells
 unfolding Printable
 filled-fits levels cells e p = rw e at p
 

@@ -29,13 +29,13 @@ lineCount (Filled runs columns) = runs + 2
 lineCount (Refused why) = 1
 
 -- A table that lies in its buffers and whose lines are at most 512 bytes long.
-pub record Fitting (runs columns : ℕ) (levels cells : List ℕ) : Type 0 where
+pub record TableInBuffers (runs columns : ℕ) (levels cells : List ℕ) : Type 0 where
   pub narrow : columns ≤ 128
   pub levels-there : columns ≤ length levels
   pub cells-there : runs * columns ≤ length cells
 
 unfoldable pub Printable : Answer → List ℕ → List ℕ → Type 0
-Printable (Filled runs columns) levels cells = Fitting runs columns levels cells
+Printable (Filled runs columns) levels cells = TableInBuffers runs columns levels cells
 Printable (Refused why) levels cells = Unit {0}
 
 -- What the program prints, from what it reads, both as bytes. First of an outcome: the table run by run, or the refusal.

@@ -6,7 +6,7 @@ ghost use Prim.Native.Nat.{_+_, _≤_, _<_};
 ghost use lib.ListN.{length, getD, take};
 ghost use Rattle.buffers.specs.Put.{Put};
 ghost use Rattle.lines.specs.Lines.{printedLines};
-ghost use Rattle.report.specs.Report.{refusalLine, answerLines, lineCount, Printable, Fitting};
+ghost use Rattle.report.specs.Report.{refusalLine, answerLines, lineCount, Printable, TableInBuffers};
 use lines::put_pair;
 use lines::put_refusal;
 use lines::put_row;
@@ -32,7 +32,7 @@ fn put_filled(
     cells: &[u8],
 ) -> usize
     requires { ⌜ 1024 ≤ length (now buf) ⌝ }
-    requires { ⌜ Fitting runs columns (now levels) (now cells) ⌝ }
+    requires { ⌜ TableInBuffers runs columns (now levels) (now cells) ⌝ }
     requires { ⌜ i < runs + 2 ⌝ }
     ensures { λ r. ⌜ Put (now (buf .entry)) 0 (getD (printedLines runs (take columns (now (levels .entry))) (now (cells .entry))) i []) (now (buf .exit)) r ⌝ }
 {

@@ -9,7 +9,7 @@ use borrow.Author.Tests.{ltb-true}
 use lib.Dec.{leb, ltb}
 use lib.ListN.{length, length-set}
 use Rattle.words.specs.Words.{isGap, isDigit}
-use Rattle.words.specs.Scanner.{grown, stored, resumed, Progress, stepOf, stepped, advanced, finishOf, finished, place, placeAtEnd, Sound, Ended}
+use Rattle.words.specs.Scanner.{grown, stored, resumed, Progress, scanStep, stepped, advanced, finishOf, finished, place, placeAtEnd, Unfinished, Ended}
 use Rattle.words.specs.declared.Scan.{Scan}
 use Rattle.words.specs.declared.Scan.the-variants.{Between, Inside, Failed}
 use Rattle.words.specs.declared.Scanned.{Scanned}
@@ -27,7 +27,7 @@ resumed-place (Numbers count) = refl
 resumed-place (Refused at) = refl
 
 module _ {places : ℕ} where
-  sound-grown : (count value byte : ℕ) (list : List ℕ) → count ≤ 32768 → length list ≡ places → Sound places (grown count value byte) list
+  sound-grown : (count value byte : ℕ) (list : List ℕ) → count ≤ 32768 → length list ≡ places → Unfinished places (grown count value byte) list
   sound-grown count value byte list h k = record { low = rw (grown-place count value byte) h; kept = k }
 
   sound-stored : (count value : ℕ) (list : List ℕ) → count ≤ 32768 → length list ≡ places → Ended places (stored count value list .0) (stored count value list .1)
@@ -37,34 +37,34 @@ module _ {places : ℕ} where
       (λ l. rw l record { low = omega (arith, ltb-true count 32768 l); kept = length-set list count value ∙ k })
       (λ l. rw l record { low = h; kept = k })
 
-  sound-resumed : (r : Scanned) (list : List ℕ) → Ended places r list → Sound places (resumed r) list
+  sound-resumed : (r : Scanned) (list : List ℕ) → Ended places r list → Unfinished places (resumed r) list
   sound-resumed r list e = record { low = rw (resumed-place r) (e .low); kept = e .kept }
 
-  sound-step : (s : Scan) (list : List ℕ) (byte : ℕ) → Sound places s list → Sound places (stepOf s list byte .0) (stepOf s list byte .1)
+  sound-step : (s : Scan) (list : List ℕ) (byte : ℕ) → Unfinished places s list → Unfinished places (scanStep s list byte .0) (scanStep s list byte .1)
   sound-step (Between count) list byte h = by-cases (isGap byte) (λ g. rw g h) (λ g. rw g (sound-grown count 0 byte list (h .low) (h .kept)))
   sound-step (Inside count value) list byte h =
       by-cases (isGap byte) (λ g. rw g (sound-resumed _ _ (sound-stored count value list (h .low) (h .kept))))
       (λ g. rw g (sound-grown count value byte list (h .low) (h .kept)))
   sound-step (Failed at) list byte h = h
 
-  sound-fold : (bytes : List ℕ) (p : Progress) → Sound places (p .0) (p .1) → Sound places (foldl stepped p bytes .0) (foldl stepped p bytes .1)
+  sound-fold : (bytes : List ℕ) (p : Progress) → Unfinished places (p .0) (p .1) → Unfinished places (foldl stepped p bytes .0) (foldl stepped p bytes .1)
   unfolding stepped
   sound-fold [] p h = h
   sound-fold (b ∷ bs) p h = sound-fold bs (stepped p b) (sound-step (p .0) (p .1) b h)
 
-  sound-end : (s : Scan) (list : List ℕ) → Sound places s list → Ended places (finishOf s list .0) (finishOf s list .1)
+  sound-end : (s : Scan) (list : List ℕ) → Unfinished places s list → Ended places (finishOf s list .0) (finishOf s list .1)
   sound-end (Between count) list h = record { low = h .low; kept = h .kept }
   sound-end (Inside count value) list h = sound-stored count value list (h .low) (h .kept)
   sound-end (Failed at) list h = record { low = h .low; kept = h .kept }
 
 -- From what `start`, `piece` and `finish` ensure.
-pub sound-start : {s : Scan} (list : List ℕ) → s ≡ Between 0 → Sound (length list) s list
+pub sound-start : {s : Scan} (list : List ℕ) → s ≡ Between 0 → Unfinished (length list) s list
 sound-start list e = rw e record { low = zero-le; kept = refl }
 
-module _ {places : ℕ} {s : Scan} {list : List ℕ} (h : Sound places s list) where
-  pub sound-piece : (bytes : List ℕ) {r : Scan} {list′ : List ℕ} → (r, list′) ≡ advanced (s, list) bytes → Sound places r list′
+module _ {places : ℕ} {s : Scan} {list : List ℕ} (h : Unfinished places s list) where
+  pub sound-piece : (bytes : List ℕ) {r : Scan} {list′ : List ℕ} → (r, list′) ≡ advanced (s, list) bytes → Unfinished places r list′
   unfolding advanced
-  sound-piece bytes e = subst (λ (p : Progress). Sound places (p .0) (p .1)) (sym e) (sound-fold bytes (s, list) h)
+  sound-piece bytes e = subst (λ (p : Progress). Unfinished places (p .0) (p .1)) (sym e) (sound-fold bytes (s, list) h)
 
   pub sound-finish : {r : Scanned} {list′ : List ℕ} → (r, list′) ≡ finished (s, list) → Ended places r list′
   unfolding finished

@@ -11,7 +11,7 @@ use lib.Dec.{ltb}
 use lib.ListN.{length, take, set, length-set}
 use lib.Seq.{take-suc-set, append-snoc}
 use Rattle.words.specs.Words.{isGap, words, decimal, isNumber, Reading, numbers, refused, prefixed, readWords, reading}
-use Rattle.words.specs.Scanner.{grown, stored, resumed, Progress, stepped, advanced, finishOf, finished, readingOf}
+use Rattle.words.specs.Scanner.{grown, stored, resumed, Progress, stepped, advanced, finishOf, finished, scannedReading}
 use Rattle.words.specs.declared.Scan.{Scan}
 use Rattle.words.specs.declared.Scan.the-variants.{Between, Inside, Failed}
 use Rattle.words.proofs.Steps.{skips, begins, ends, grows, stays}
@@ -38,7 +38,7 @@ within count (b ∷ bs) = Inside count (decimal (b ∷ bs))
 
 -- What the rest of a text comes to from a state.
 abbrev outcome : List ℕ → Progress → Reading
-outcome bytes p = readingOf (finishOf (foldl stepped p bytes .0) (foldl stepped p bytes .1))
+outcome bytes p = scannedReading (finishOf (foldl stepped p bytes .0) (foldl stepped p bytes .1))
 
 failed-stays : (place : ℕ) (list bytes : List ℕ) → outcome bytes (Failed place, list) ≡ refused place
 failed-stays place list [] = refl
@@ -63,7 +63,7 @@ step-word count (b ∷ bs) list x g e = sym (grows list x refl g) ∙ rw (number
 
 -- The end of a word that is a number, with what follows it.
 module _ (count value : ℕ) (list : List ℕ) (places : length list ≡ 32768) where
-  ends-last : readingOf (stored count value list) ≡ after (take count list) (cond (ltb count 32768 && true) (numbers (value ∷ [])) (refused count))
+  ends-last : scannedReading (stored count value list) ≡ after (take count list) (cond (ltb count 32768 && true) (numbers (value ∷ [])) (refused count))
   unfolding stored
   ends-last =
       by-cases (ltb count 32768)
@@ -115,9 +115,9 @@ module _ (list : List ℕ) (places : length list ≡ 32768) where
   pieces-joined p [] = refl
   pieces-joined p (piece ∷ pieces) = pieces-joined (foldl stepped p piece) pieces ∙ sym (foldl-append stepped p piece (flatten pieces))
 
-  pub any-cut : (pieces : List (List ℕ)) → readingOf (finished (foldl advanced (Between 0, list) pieces)) ≡ reading (flatten pieces)
+  pub any-cut : (pieces : List (List ℕ)) → scannedReading (finished (foldl advanced (Between 0, list) pieces)) ≡ reading (flatten pieces)
   unfolding reading finished advanced
   any-cut pieces =
-      ap (λ (p : Progress). readingOf (finished p)) (pieces-joined (Between 0, list) pieces)
+      ap (λ (p : Progress). scannedReading (finished p)) (pieces-joined (Between 0, list) pieces)
       ∙ reads-on (flatten pieces) 0 [] list places tt number-none
       ∙ after-nil (reading (flatten pieces))

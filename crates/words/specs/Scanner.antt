@@ -30,14 +30,14 @@ abbrev pub Progress : Type 0
 Progress = Scan × List ℕ
 
 -- After one byte. A gap after a word ends it.
-abbrev pub stepOf : Scan → List ℕ → ℕ → Progress
-stepOf (Between count) list byte = (cond (isGap byte) (Between count) (grown count 0 byte), list)
-stepOf (Inside count value) list byte =
+abbrev pub scanStep : Scan → List ℕ → ℕ → Progress
+scanStep (Between count) list byte = (cond (isGap byte) (Between count) (grown count 0 byte), list)
+scanStep (Inside count value) list byte =
     cond (isGap byte) (resumed (stored count value list .0), stored count value list .1) (grown count value byte, list)
-stepOf (Failed place) list byte = (Failed place, list)
+scanStep (Failed place) list byte = (Failed place, list)
 
 unfoldable pub stepped : Progress → ℕ → Progress
-stepped p byte = stepOf (p .0) (p .1) byte
+stepped p byte = scanStep (p .0) (p .1) byte
 
 -- After the bytes of a piece.
 unfoldable pub advanced : Progress → List ℕ → Progress
@@ -53,9 +53,9 @@ unfoldable pub finished : Progress → Scanned × List ℕ
 finished p = finishOf (p .0) (p .1)
 
 -- The answer, with the numbers at the front of the list.
-abbrev pub readingOf : Scanned × List ℕ → Reading
-readingOf (Numbers count, list) = numbers (take count list)
-readingOf (Refused place, list) = refused place
+abbrev pub scannedReading : Scanned × List ℕ → Reading
+scannedReading (Numbers count, list) = numbers (take count list)
+scannedReading (Refused place, list) = refused place
 
 -- The place of the next word, or of the one begun or refused.
 abbrev pub place : Scan → ℕ
@@ -68,7 +68,7 @@ placeAtEnd (Numbers count) = count
 placeAtEnd (Refused at) = at
 
 -- A scanner that has read at most 32,768 numbers, or refuses at a place up to that, with a list of so many places: under way, and at its end.
-pub record Sound (places : ℕ) (s : Scan) (list : List ℕ) : Type 0 where
+pub record Unfinished (places : ℕ) (s : Scan) (list : List ℕ) : Type 0 where
   pub low : place s ≤ 32768
   pub kept : length list ≡ places
 

@@ -3,7 +3,7 @@
 use mathlib.Core.Path.{_≡_}
 use lib.ListN.{length}
 use borrow.Author.Needs.{needs}
-use Rattle.words.specs.Scanner.{Sound}
+use Rattle.words.specs.Scanner.{Unfinished}
 use Rattle.words.proofs.Bounds.{sound-start, sound-piece, sound-finish}
 use Rattle.planner.specs.Scanned.{ScannedPart}
 use Rattle.planner.proofs.Scanning.{underway-start, underway-piece, underway-end}
@@ -11,7 +11,7 @@ use Rattle.planner.proofs.scan_input.Statement.{statement}
 use Rattle.planner.proofs.scan_input.Tie as tie
 
 abbrev Inv-loop : tie.InvT-loop
-Inv-loop list₀ piece₀ state₀ pieces-left₀ list piece state pieces-left = Sound (length list₀) state list × (length piece ≡ 4096) × ScannedPart list₀ state list
+Inv-loop list₀ piece₀ state₀ pieces-left₀ list piece state pieces-left = Unfinished (length list₀) state list × (length piece ≡ 4096) × ScannedPart list₀ state list
 
 abbrev μ-loop : tie.MeasureT-loop
 μ-loop list₀ piece₀ state₀ pieces-left₀ list piece state pieces-left = pieces-left

@@ -3,7 +3,7 @@ use mathlib.Core.Path.{_≡_, sym, _∙_}
 use native.Mathlib.Omega.{arith}
 use denote.Ref.{now}
 use Prim.Native.Nat.{_≤_}
-use Rattle.order.specs.Reader.{allowed, times}
+use Rattle.order.specs.Reader.{allowed, repeated}
 use Rattle.order.specs.Grammar.{generatorField, factorWidth, generatorBody}
 use Rattle.order.specs.Answers.{numberOf, totalOf, spotOf}
 use Rattle.order.specs.declared.Number.the-variants.{Is}
@@ -37,7 +37,7 @@ enum-known-width : tie.Need-enum-known-width
 enum-known-width c = search needs
 
 -- The widths were read.
-widths-read : (c : tie.After-known-told2) → totalOf (times (c .before .before .before .before .before .before .before .before .before .args .n) (allowed (factorWidth (c .before .before .before .before .before .s .given .0 .0))) (now (c .before .before .before .before .before .before .before .before .before .args .list)) (c .before .before .before .before .before .s .given .0 .1 .0 .at)) ≡ Is (c .before .width .given .0 .0) (c .before .width .given .0 .1 .0)
+widths-read : (c : tie.After-known-told2) → totalOf (repeated (c .before .before .before .before .before .before .before .before .before .args .n) (allowed (factorWidth (c .before .before .before .before .before .s .given .0 .0))) (now (c .before .before .before .before .before .before .before .before .before .args .list)) (c .before .before .before .before .before .s .given .0 .1 .0 .at)) ≡ Is (c .before .width .given .0 .0) (c .before .width .given .0 .1 .0)
 widths-read c = sym (c .before .before .before .widths .ensures) ∙ c .before .width .given .1
 
 mul-skip : tie.Need-mul-skip

@@ -2,7 +2,7 @@
 use mathlib.Core.Path.{_≡_, refl, sym, _∙_}
 use denote.Ref.{now}
 use borrow.Author.Needs.{needs}
-use Rattle.order.specs.Reader.{times}
+use Rattle.order.specs.Reader.{repeated}
 use Rattle.order.specs.Grammar.{readIngredient}
 use Rattle.order.specs.Answers.{walkOf}
 use Rattle.order.proofs.Answers.{spot-value, spot-refused, times-on, times-refused, times-done}
@@ -11,7 +11,7 @@ use Rattle.order.proofs.ingredients.ingredients.Tie as tie
 
 abbrev Inv-loop : tie.InvT-loop
 Inv-loop list n c₀ left₀ c left =
-    walkOf (times left readIngredient list (c .at)) ≡ walkOf (times n readIngredient list (c₀ .at))
+    walkOf (repeated left readIngredient list (c .at)) ≡ walkOf (repeated n readIngredient list (c₀ .at))
 
 abbrev μ-loop : tie.MeasureT-loop
 μ-loop list n c₀ left₀ c left = left

@@ -2,7 +2,7 @@
 use native.Mathlib.Omega.{arith}
 use mathlib.Core.Path.{_≡_, sym, _∙_}
 use denote.Ref.{now}
-use Rattle.order.specs.Reader.{allowed, times}
+use Rattle.order.specs.Reader.{allowed, repeated}
 use Rattle.order.specs.Grammar.{between, tableBody}
 use Rattle.order.specs.Answers.{walkOf, spotOf}
 use Rattle.order.specs.declared.Walk.the-variants.{On}
@@ -20,7 +20,7 @@ enum-known-next : tie.Need-enum-known-next
 enum-known-next c = search needs
 
 -- The level counts were read.
-levels-read : (c : tie.After-known-told) → walkOf (times (c .before .before .before .before .before .args .columns) (allowed (between 2 64)) (now (c .before .before .before .before .before .args .list)) (c .before .before .before .before .before .args .from .at)) ≡ On (c .before .next .given .0 .0)
+levels-read : (c : tie.After-known-told) → walkOf (repeated (c .before .before .before .before .before .args .columns) (allowed (between 2 64)) (now (c .before .before .before .before .before .args .list)) (c .before .before .before .before .before .args .from .at)) ≡ On (c .before .next .given .0 .0)
 levels-read c = sym (c .before .before .before .series .ensures) ∙ c .before .next .given .1
 
 mul-skip : tie.Need-mul-skip

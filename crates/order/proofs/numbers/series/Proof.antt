@@ -2,7 +2,7 @@
 use mathlib.Core.Path.{_≡_, refl, sym, _∙_}
 use denote.Ref.{now}
 use borrow.Author.Needs.{needs}
-use Rattle.order.specs.Reader.{allowed, times}
+use Rattle.order.specs.Reader.{allowed, repeated}
 use Rattle.order.specs.Grammar.{between}
 use Rattle.order.specs.Answers.{walkOf}
 use Rattle.order.proofs.Answers.{number-value, number-refused, times-on, times-refused, times-done}
@@ -11,7 +11,7 @@ use Rattle.order.proofs.numbers.series.Tie as tie
 
 abbrev Inv-loop : tie.InvT-loop
 Inv-loop list n low high c₀ left₀ c left =
-    walkOf (times left (allowed (between low high)) list (c .at)) ≡ walkOf (times n (allowed (between low high)) list (c₀ .at))
+    walkOf (repeated left (allowed (between low high)) list (c .at)) ≡ walkOf (repeated n (allowed (between low high)) list (c₀ .at))
 
 abbrev μ-loop : tie.MeasureT-loop
 μ-loop list n low high c₀ left₀ c left = left

@@ -6,7 +6,7 @@ use native.Mathlib.Omega.{arith}
 use denote.Ref.{now}
 use borrow.Author.Needs.{needs}
 use Rattle.order.specs.Order.{FactorWidth}
-use Rattle.order.specs.Reader.{value, allowed, times}
+use Rattle.order.specs.Reader.{value, allowed, repeated}
 use Rattle.order.specs.Grammar.{factorWidth}
 use Rattle.order.specs.Answers.{totalOf}
 use Rattle.order.proofs.Tests.{factorWidth-iff}
@@ -19,7 +19,7 @@ use Rattle.order.proofs.numbers.widths.Tie as tie
 abbrev Inv-loop : tie.InvT-loop
 Inv-loop list n s c₀ left₀ sum₀ c left sum =
     (sum + 6 * left ≤ 6 * n)
-    × (plus sum (totalOf (times left (allowed (factorWidth s)) list (c .at))) ≡ totalOf (times n (allowed (factorWidth s)) list (c₀ .at)))
+    × (plus sum (totalOf (repeated left (allowed (factorWidth s)) list (c .at))) ≡ totalOf (repeated n (allowed (factorWidth s)) list (c₀ .at)))
 
 abbrev μ-loop : tie.MeasureT-loop
 μ-loop list n s c₀ left₀ sum₀ c left sum = left
@@ -27,7 +27,7 @@ abbrev μ-loop : tie.MeasureT-loop
 loop-holds : tie.Need-loop-holds Inv-loop μ-loop
 loop-holds c =
     let a = c .before .args in
-    (omega arith, plus-zero (times (a .n) (allowed (factorWidth (a .s))) (now (a .list)) (a .start .at)))
+    (omega arith, plus-zero (repeated (a .n) (allowed (factorWidth (a .s))) (now (a .list)) (a .start .at)))
 
 factor-width-requires : tie.Need-factor-width-requires Inv-loop μ-loop
 factor-width-requires c κs = c .before .before .before .pre .0
