@@ -4,7 +4,7 @@ use mathlib.Core.Path.{_≡_, refl, _∙_}
 use mathlib.Core.Bool.{Bool, true, false, cond, _&&_}
 use mathlib.Core.List.{List}
 use mathlib.Core.Option.{Option, none, some, bind}
-use Prim.Native.Nat.{ℕ, zero, suc, _+_, _-_, _*_, _%_, _≤_, _<_}
+use Prim.Native.Nat.{ℕ, zero, suc, _+_, _*_, _%_, _≤_, _<_}
 use native.Mathlib.Nat.{mod-lt}
 use native.Mathlib.Omega.{arith}
 use borrow.Author.Tests.{leb-true}
@@ -66,9 +66,7 @@ module _ (list : List ℕ) (o : Order) (reads : Reads list o) where
   pub listed-at : {A : Type 0} (kind : Ingredient → Option A) (i : ℕ) → 1 ≤ i → listed kind o i ≡ bind (ingredientIn list (ingredientAt (readOrder list) i)) kind
   unfolding listed
   listed-at kind zero h = absurd (omega arith)
-  listed-at kind (suc k) h =
-      let before : suc k - 1 ≡ k = omega arith in
-      rw (before, ingredient-described list o reads k)
+  listed-at kind (suc k) h = rw (ingredient-described list o reads k)
 
   pub table-named : (i : ℕ) → 1 ≤ i → tableNamed o i ≡ someTable list (namedTable (readOrder list) i)
   unfolding tableNamed houseTable namedTable

@@ -16,6 +16,7 @@ use Rattle.sheets.specs.Merge.{MemberFault}
 use Rattle.sheets.specs.Steps.{Outcome, filled, refused, proceed, provided, Operation, sum, merge, split, opening, operation, fits, wrongMember, applied, sized, afterSums, operate, firstStep, laterStep, laterSteps, allSteps}
 use Rattle.sheets.specs.Fillable.{Fits, TrueSums, Opened, Carried, LaterCarried, AllCarried, laterSheets, latest, finalSheet}
 use Rattle.sheets.specs.declared.answer.Refusal.{Refusal}
+use Rattle.sheets.proofs.Naming.{opens-iff, does-iff}
 use Rattle.sheets.proofs.StepQuestions.{size-decides, split-decides, merge-decides, members-decide, sum-decides}
 
 -- ---- outcomes
@@ -107,11 +108,11 @@ module _ (o : Order) where
   first-carried step e =
       let (S, named, p) = provided-filled (opening o step) _ _ e in
       let (small, same) = sized-filled _ S p in
-      (record { sheet = S; allowed = named; small-enough = small }, same)
+      (record { sheet = S; allowed = opens-iff o step .0 named; small-enough = small }, same)
 
   carried-first : (step : Step) (c : Opened o step) → firstStep o step ≡ filled (c .sheet)
   unfolding firstStep
-  carried-first step c = filled-provided _ (sized _) (c .allowed) ∙ filled-sized _ (c .sheet) (c .small-enough)
+  carried-first step c = filled-provided _ (sized _) (opens-iff o step .1 (c .allowed)) ∙ filled-sized _ (c .sheet) (c .small-enough)
 
   pub step-carried : (n : ℕ) (S : Table) (step : Step) {F : Table} → laterStep o n S step ≡ filled F
       → (c : Carried o S step) × (applied (c .doing) S ≡ F)
@@ -119,12 +120,12 @@ module _ (o : Order) where
   step-carried n S step e =
       let (f, named, p) = provided-filled (operation o step) _ _ e in
       let (fitting, right, small, same) = operate-filled n S f p in
-      (record { doing = f; allowed = named; fitting = fitting; true-sums = right; small-enough = small }, same)
+      (record { doing = f; allowed = does-iff o step .0 named; fitting = fitting; true-sums = right; small-enough = small }, same)
 
   carried-step : (n : ℕ) (S : Table) (step : Step) (c : Carried o S step) → laterStep o n S step ≡ filled (applied (c .doing) S)
   unfolding laterStep
   carried-step n S step c =
-      filled-provided _ (operate n S) (c .allowed) ∙ filled-operate n S (c .doing) (c .fitting) (c .true-sums) (c .small-enough)
+      filled-provided _ (operate n S) (does-iff o step .1 (c .allowed)) ∙ filled-operate n S (c .doing) (c .fitting) (c .true-sums) (c .small-enough)
 
   -- the same steps on one sheet under two names
   moved : (n : ℕ) {S T F : Table} (steps : List Step) → S ≡ T → laterSteps o n T steps ≡ filled F → laterSteps o n S steps ≡ filled F

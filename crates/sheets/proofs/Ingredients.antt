@@ -175,8 +175,9 @@ or-else (some x) later a e = inl e
 module _ (o : Order) (limits : WithinLimits o) (range : EntriesInRange o) (passing : All MeetsDefinition (o .ingredients)) where
   listed-known : {A : Type 0} (kind : Ingredient → Option A) (i : ℕ) {a : A} → listed kind o i ≡ some a → (g : Ingredient) × Known g × (kind g ≡ some a)
   unfolding listed
-  listed-known kind i e =
-      let (g, at, is) = bind-eq-some-iff _ kind .0 e in
+  listed-known kind zero {a} e = absurd (Option·none-ne-some a e)
+  listed-known kind (suc k) e =
+      let (g, at, is) = bind-eq-some-iff (getElem? (o .ingredients) k) kind .0 e in
       let known : Known g =
       record {
         limits = all-at IngredientLimits (o .ingredients) (limits .each-ingredient) _ at;

@@ -14,6 +14,7 @@ pub mod FieldCount
 pub mod FieldTable
 pub mod StepQuestions
 pub mod OrderQuestions
+pub mod Naming
 pub mod Carried
 pub mod Ingredients
 pub mod Sheets

@@ -23,6 +23,7 @@ use Rattle.sheets.specs.Merge.{mergePrimes}
 use Rattle.sheets.specs.Ingredients.{tableNamed, generatorNamed, matricesNamed, adjoinedNamed}
 use Rattle.sheets.specs.Steps.{filled, Operation, sum, merge, split, fieldStep, opening, operation, applied, firstStep, laterStep}
 use Rattle.sheets.specs.Fillable.{MeetsDefinition, Fits, TrueSums, LaterCarried, AllCarried, laterSheets, sheets, latest, finalSheet}
+use Rattle.sheets.proofs.Naming.{opens-iff, does-iff}
 use Rattle.sheets.proofs.Carried.{first-carried, step-carried}
 use Rattle.sheets.proofs.Sum.{sum-leaves, sum-levels}
 use Rattle.sheets.proofs.Merge.{merge-leaves, merge-levels}
@@ -131,7 +132,7 @@ module _ (o : Order) (limits : WithinLimits o) (range : EntriesInRange o) (passi
   pub first-filled : (step : Step) {F : Table} → firstStep o step ≡ filled F → Sound F × SmallEnough F
   first-filled step e =
       let (c, same) = first-carried o step e in
-      subst (λ F. Sound F × SmallEnough F) same (opening-sound step (c .sheet) (c .allowed), c .small-enough)
+      subst (λ F. Sound F × SmallEnough F) same (opening-sound step (c .sheet) (opens-iff o step .1 (c .allowed)), c .small-enough)
 
   pub later-filled : (n : ℕ) (S : Table) → Sound S → (step : Step) → StepLimits step → {F : Table} → laterStep o n S step ≡ filled F
       → Sound F × SmallEnough F
@@ -140,7 +141,7 @@ module _ (o : Order) (limits : WithinLimits o) (range : EntriesInRange o) (passi
       subst
       (λ F. Sound F × SmallEnough F)
       same
-      (later-sound S sheet step within (c .doing) (c .allowed) (c .fitting) (c .true-sums), c .small-enough)
+      (later-sound S sheet step within (c .doing) (does-iff o step .1 (c .allowed)) (c .fitting) (c .true-sums), c .small-enough)
 
   -- ---- all steps
 
@@ -149,7 +150,7 @@ module _ (o : Order) (limits : WithinLimits o) (range : EntriesInRange o) (passi
   unfolding LaterCarried laterSheets
   later-sheets S sheet [] within c = tt
   later-sheets S sheet (step ∷ steps) within c =
-      let next = later-sound S sheet step (within .0) (c .0 .doing) (c .0 .allowed) (c .0 .fitting) (c .0 .true-sums) in
+      let next = later-sound S sheet step (within .0) (c .0 .doing) (does-iff o step .1 (c .0 .allowed)) (c .0 .fitting) (c .0 .true-sums) in
       ((next, c .0 .small-enough), later-sheets (applied (c .0 .doing) S) next steps (within .1) (c .1))
 
   -- every sheet on the way
@@ -157,7 +158,7 @@ module _ (o : Order) (limits : WithinLimits o) (range : EntriesInRange o) (passi
   unfolding AllCarried sheets
   sheets-sound [] within c = absurd c
   sheets-sound (step ∷ steps) within c =
-      let first = opening-sound step (c .0 .sheet) (c .0 .allowed) in
+      let first = opening-sound step (c .0 .sheet) (opens-iff o step .1 (c .0 .allowed)) in
       ((first, c .0 .small-enough), later-sheets (c .0 .sheet) first steps (within .1) (c .1))
 
   latest-all : (P : Table → Type 0) (S : Table) (Ts : List Table) → P S → All P Ts → P (latest S Ts)

@@ -1,7 +1,6 @@
 -- The conditions under which an order is filled: document 01, questions 2 to 8, stated as conditions on the list.
 use mathlib.Core.Path.{_≡_}
 use mathlib.Core.List.{List, [], _∷_}
-use mathlib.Core.Option.{some}
 use Prim.Native.Nat.{ℕ, _≤_}
 use lib.ListN.{length}
 use Rattle.galois.specs.Arithmetic.{fieldSum, fieldProduct}
@@ -14,7 +13,8 @@ use Rattle.sheets.specs.Sheet.{SmallEnough}
 use Rattle.sheets.specs.Sum.{rowsOf, adjoinedTable, SumFits}
 use Rattle.sheets.specs.Merge.{MergeFits, MemberSums}
 use Rattle.sheets.specs.Split.{SplitFits}
-use Rattle.sheets.specs.Steps.{Operation, sum, merge, split, opening, operation, applied}
+use Rattle.sheets.specs.Steps.{Operation, sum, merge, split, applied}
+use Rattle.sheets.specs.Naming.{Opens, Does}
 
 -- question 4: an ingredient meets its published definition, a table at strength two
 unfoldable pub MeetsDefinition : Ingredient → Type 0
@@ -37,13 +37,13 @@ TrueSums (split c T) S = Unit {0}
 -- questions 5 and 8 of the first step: it is of kind 1 or 2, its ingredient exists with the kind wanted, and its sheet is small enough
 pub record Opened (o : Order) (step : Step) : Type 0 where
   pub sheet : Table
-  pub allowed : opening o step ≡ some sheet
+  pub allowed : Opens o step sheet
   pub small-enough : SmallEnough sheet
 
 -- questions 5 to 8 of a later step, where the sheet before it is S
 pub record Carried (o : Order) (S : Table) (step : Step) : Type 0 where
   pub doing : Operation
-  pub allowed : operation o step ≡ some doing
+  pub allowed : Does o step doing
   pub fitting : Fits doing S
   pub true-sums : TrueSums doing S
   pub small-enough : SmallEnough (applied doing S)

@@ -1,7 +1,7 @@
 -- What the number of an ingredient names: document 01, "The order". Numbers 1 to q name the ingredients of the list, 101 to 104 the house tables.
 use mathlib.Core.List.{List, [], _∷_}
 use mathlib.Core.Option.{Option, none, some, Option·map, bind}
-use Prim.Native.Nat.{ℕ, zero, suc, _-_}
+use Prim.Native.Nat.{ℕ, zero, suc}
 use lib.ListN.{getElem?}
 use Rattle.finite.specs.First.{_orElse_}
 use Rattle.counting.specs.Table.{Table, tableOf}
@@ -26,9 +26,10 @@ asGenerator (table rows levels entries) = none
 asGenerator (matrix rows columns p entries) = none
 asGenerator (generator t s widths entries) = some (generatorOf entries t s widths)
 
--- ingredient number i of the list, from 1, if it exists with the kind wanted
+-- ingredient number i of the list, from 1, if it exists with the kind wanted; 0 is the number of none
 unfoldable pub listed : {A : Type 0} → (Ingredient → Option A) → Order → ℕ → Option A
-listed kind o i = bind (getElem? (o .ingredients) (i - 1)) kind
+listed kind o zero = none
+listed kind o (suc k) = bind (getElem? (o .ingredients) k) kind
 
 -- the table that number i names
 unfoldable pub tableNamed : Order → ℕ → Option Table

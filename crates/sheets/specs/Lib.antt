@@ -7,5 +7,6 @@ pub mod Split
 pub mod Refusals
 pub mod Ingredients
 pub mod Steps
+pub mod Naming
 pub mod Outcome
 pub mod Fillable
