@@ -1,3 +1,4 @@
 pub mod Prefix
 pub mod Readers
 pub mod Unreadable
+pub mod OutOfRange

@@ -126,7 +126,7 @@ module _ {A B : Type 0} {r : Reader A} {f : A → Reader B} (first : RefusesAtOn
       let whole : List ℕ = front ++ c .rest in
       let more = at-the-end (second (c .read) (whole, at, length whole, c .reads)) whole in
       let start : SameStart (length whole) whole (whole ++ more .rest) =
-          record { long = le-refl _; same = take-append-seam whole (more .rest) ∙ sym (take-length whole) } in
+      record { long = le-refl _; same = take-append-seam whole (more .rest) ∙ sym (take-length whole) } in
       let fits : at ≤ length whole = omega (arith, length-append front (c .rest)) in
       let as-first : r (whole ++ more .rest) at ≡ value (c .read) (length whole) = value-decided first whole (whole ++ more .rest) at fits (c .reads) start in
       record { rest = c .rest ++ more .rest; read = more .read; reads = rw (← append-assoc front (c .rest) (more .rest), as-first) (more .reads) }
@@ -142,7 +142,7 @@ module _ {A B : Type 0} {r : Reader A} {f : A → Reader B} (first : RefusesAtOn
           let front : List ℕ = take place list in
           let short : mid ≤ length front = omega (arith, length-take-le place list (then .1), then .0) in
           let start : SameStart mid list (front ++ c .rest) =
-              record { long = high; same = take-append-le mid front (c .rest) short ∙ take-take mid place list (then .0) } in
+          record { long = high; same = take-append-le mid front (c .rest) short ∙ take-take mid place list (then .0) } in
           let as-first : r (front ++ c .rest) at ≡ value a mid = value-decided first list (front ++ c .rest) at inside h start in
           record { rest = c .rest; read = c .read; reads = rw as-first (c .reads) }
       go (refused there) h (low, high) e =
@@ -253,9 +253,9 @@ module _ (n : ℕ) where
   numbers-decided list other at inside =
       numbers-cases list at inside (λ p. SameStart (decides p) list other → numbers n other at ≡ p)
       (λ h s.
-        let long = same-length s in
-        let same : take n (drop at other) ≡ take n (drop at list) = part other at (omega arith) ∙ rw (s .same) (sym (part list at inside)) in
-        numbers-there other at long ∙ rw same)
+      let long = same-length s in
+      let same : take n (drop at other) ≡ take n (drop at list) = part other at (omega arith) ∙ rw (s .same) (sym (part list at inside)) in
+      numbers-there other at long ∙ rw same)
       (λ h s. absurd (omega (arith, s .long)))
 
   -- As many more numbers as are missing.
@@ -269,9 +269,9 @@ module _ (n : ℕ) where
       numbers-cases list at inside (λ p. p ≡ refused place → Completion (numbers n) (take place list) at)
       (λ h r. absurd (no-refusal r))
       (λ h r.
-        let same : length list ≡ place = cc in
-        let enough : at + n ≡ length list + length (replicate (at + n - length list) 0) = omega (arith, length-replicate {A = ℕ} (at + n - length list) 0) in
-        rw (← same, take-length) (followed-by list at (replicate (at + n - length list) 0) enough))
+      let same : length list ≡ place = cc in
+      let enough : at + n ≡ length list + length (replicate (at + n - length list) 0) = omega (arith, length-replicate {A = ℕ} (at + n - length list) 0) in
+      rw (← same, take-length) (followed-by list at (replicate (at + n - length list) 0) enough))
 
   pub numbers-at-once : RefusesAtOnce (numbers n)
   numbers-at-once = record { forward = numbers-forward; decided = numbers-decided; completes = numbers-completes }

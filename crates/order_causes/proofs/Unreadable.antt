@@ -67,7 +67,7 @@ module _ (list : List ℕ) (short : length list ≤ 32768) where
       stops short more begun λ b.
       let start : SameStart (next + 1) list (written (b .order)) = begins-same (next + 1) list (omega arith) b in
       let same : readParts (written (b .order)) 0 ≡ value o next =
-          value-decided parts-at-once list (written (b .order)) 0 (omega arith) e (same-fewer next (omega arith) start) in
+      value-decided parts-at-once list (written (b .order)) 0 (omega arith) e (same-fewer next (omega arith) start) in
       let whole = written-reads (b .order) (b .limits) in
       let ends : next ≡ length (written (b .order)) = cc in
       omega (arith, same-length start)
