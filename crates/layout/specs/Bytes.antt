@@ -2,10 +2,11 @@
 -- bytes of both buffers are zero, and the scratch is zero after every call."
 use mathlib.Core.Path.{_≡_}
 use mathlib.Core.List.{List, _++_, map, flatMap}
-use Prim.Native.Nat.{ℕ, _-_, _≤_}
+use Prim.Native.Nat.{ℕ, _-_}
 use lib.ListN.{length, take, replicate}
 use Rattle.finite.specs.Lists.{from}
 use Rattle.counting.specs.Table.{Table, columns, tableOf}
+use Rattle.sheets.specs.Buffers.{Lengths, Suffices}
 use Rattle.layout.specs.declared.Size.{Size}
 
 -- run r, level by level
@@ -33,11 +34,13 @@ pub record Holds (S : Table) (table levels : List ℕ) : Type 0 where
 unfoldable pub Zeros : List ℕ → Type 0
 Zeros bytes = bytes ≡ zeros (length bytes)
 
--- question 1: are the run table and scratch each 65,536 bytes or more and the level list 128 bytes or more?
-pub record LongEnough (table levels scratch : List ℕ) : Type 0 where
-  pub table-long : 65536 ≤ length table
-  pub levels-long : 128 ≤ length levels
-  pub scratch-long : 65536 ≤ length scratch
+-- the lengths of the three buffers
+abbrev pub lengthsOf : List ℕ → List ℕ → List ℕ → Lengths
+lengthsOf table levels scratch = record { table = length table; levels = length levels; scratch = length scratch }
+
+-- question 1
+abbrev pub LongEnough : List ℕ → List ℕ → List ℕ → Type 0
+LongEnough table levels scratch = Suffices (lengthsOf table levels scratch)
 
 -- the sheet of a size that lies in the run table and the level list
 unfoldable pub sheetIn : List ℕ → List ℕ → Size → Table

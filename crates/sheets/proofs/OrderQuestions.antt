@@ -112,7 +112,7 @@ generator-passed i GeneratorFinding.Passes e = refl
 generator-passed i (GeneratorFinding.Fails fault) e = absurd (Option·some-ne-none _ e)
 
 -- an ingredient is not refused exactly where it meets its definition
-ingredient-decides : (i : ℕ) (g : Ingredient) → IngredientLimits g → (ingredientRefusal i g ≡ none) ↔ MeetsDefinition g
+pub ingredient-decides : (i : ℕ) (g : Ingredient) → IngredientLimits g → (ingredientRefusal i g ≡ none) ↔ MeetsDefinition g
 unfolding ingredientRefusal MeetsDefinition tableRefusal matrixRefusal generatorRefusal generatorOf
 ingredient-decides i (table rows levels entries) limits =
     let A = tableOf entries levels rows in (

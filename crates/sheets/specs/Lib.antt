@@ -1,3 +1,4 @@
+pub mod Buffers
 pub mod Lists
 pub mod Sheet
 pub mod Field
