@@ -22,6 +22,7 @@ use Rattle.sheets.specs.declared.answer.Refusal.{Refusal}
 use Rattle.sheets.proofs.OrderQuestions.{reads-whole, range-asked, range-passes, ingredients-decide}
 use Rattle.sheets.proofs.Carried.{refused-not-filled, all-carried, carried-all}
 use Rattle.sheets.proofs.Sheets.{sheets-sound, final-sound}
+use Rattle.sheets.proofs.NonEmpty.{NonEmpty, final-some}
 
 unless-filled : (x : Option Refusal) (next : Outcome) {F : Table} → unless x next ≡ filled F → (x ≡ none) × (next ≡ filled F)
 unfolding unless
@@ -108,3 +109,9 @@ pub filled-sound : (list : List ℕ) {S : Table} → outcome list ≡ filled S �
 filled-sound list e =
     let (f, same) = filled-fillable list e in
     subst (λ S. Sound S × SmallEnough S) same (ordered-sound list f)
+
+-- and has a run and a column
+pub filled-some : (list : List ℕ) {S : Table} → outcome list ≡ filled S → NonEmpty S
+filled-some list e =
+    let (f, same) = filled-fillable list e in
+    subst NonEmpty same (final-some (f .order) (f .limits) (f .order .steps) (f .limits .each-step) (f .carried))

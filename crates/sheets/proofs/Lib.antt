@@ -18,6 +18,7 @@ pub mod Naming
 pub mod Carried
 pub mod Ingredients
 pub mod Sheets
+pub mod NonEmpty
 pub mod Filled
 pub mod Agreement
 pub mod StepAgreement

@@ -4,13 +4,13 @@
 use mathlib.Core.Path.{_≡_, refl, sym, _∙_, ap, ap₂, subst}
 use mathlib.Core.Logic.{_≢_, ⊎-elim, by-cases}
 use mathlib.Core.Bool.{Bool, true, false, cond, _&&_, and-false, and-comm}
-use mathlib.Core.List.{List, [], _∷_, map, flatMap, List·Memᴰ, List·Memᴰ·head, List·Memᴰ·tail, List·Memᴰ·not-nil, List·Memᴰ·append-cases}
+use mathlib.Core.List.{List, [], _∷_, map, flatMap, List·Memᴰ, List·Memᴰ·head, List·Memᴰ·tail, List·Memᴰ·not-nil, List·Memᴰ·append-cases, List·Memᴰ·cases-cons}
 use mathlib.Core.Option.{Option, none, some, Option·none-ne-some, Option·some-injective}
 use Prim.Native.Nat.{ℕ, zero, suc, _+_, _*_, _/_, _%_, _≤_, _<_}
 use native.Mathlib.Nat.{mul-one, mul-zero, mul-comm, mul-assoc, mul-left-comm, mod-lt, div-lt-iff-lt-mul, zero-lt-suc, not-suc-le-zero}
 use native.Mathlib.Decide.{ℕ-discrete, decLt}
 use native.Mathlib.Omega.{arith}
-use borrow.Author.Tests.{eq-eqb, ne-eqb, eqb-true}
+use borrow.Author.Tests.{eq-eqb, ne-eqb, eqb-true, eqb-false}
 use lib.Arith.{digits-div, digits-mod}
 use lib.Dec.{eqb}
 use lib.ListN.{length, length-append, length-map}
@@ -24,7 +24,7 @@ use Rattle.counting.specs.Matrix.{Matrix, MatrixInRange}
 use Rattle.counting.specs.Table.{Table, columns, levelsOf, Setting, shows, times, combinations, Apart, Settings, InRange, Even}
 use Rattle.sheets.specs.Lists.{Distinct}
 use Rattle.sheets.specs.Sheet.{fromSources, OrthogonalArray, LevelsAtMost}
-use Rattle.sheets.specs.Sum.{levelSum, PassingMatrix, rowsOf, serving, adjoinedTable, SumSource, summed, adjoined, summedWith, summedColumns, sumPlace, sumSources, sumLevels, sumEntry, sumValue, sumStep, SumFits}
+use Rattle.sheets.specs.Sum.{levelSum, PassingMatrix, modulusOf, rowsOf, serving, adjoinedTable, SumSource, summed, adjoined, summedWith, summedColumns, sumPlace, sumSources, sumLevels, sumEntry, sumValue, sumStep, SumFits}
 use Rattle.sheets.proofs.Lists.{length-flatMap, mem-map, mem-flatMap, mem-from, distinct-append, distinct-map, distinct-flatMap, distinct-from}
 use Rattle.sheets.proofs.Columns.{Choice, _at_, chosen, choices, Allowed, EvenChoices, swap-choices, no-settings, Sources, from-array, from-levels}
 use Rattle.sheets.proofs.Separate.{Place, left, right, Differ, Placed, levelsAt, cellAt, Placing, asIs, lefts, rights, length-separate, settings-separate, combinations-separate, shows-separate}
@@ -42,6 +42,20 @@ serving-mem (E ∷ Ds) s D e = pick (λ f. serving-mem Ds s D f) (eqb (E .modulu
         let same : E ≡ D = Option·some-injective E D f in
         (List·Memᴰ·head (sym same), ap (λ X. X .modulus) (sym same) ∙ eqb-true (E .modulus) s t)
     pick later false t f = let r = later f in (List·Memᴰ·tail (r .0), r .1)
+
+-- a p that one of the matrices has is served
+pub serving-some : (Ds : List Matrix) (s : ℕ) → List·Memᴰ s (map modulusOf Ds) → (D : Matrix) × (serving Ds s ≡ some D) × List·Memᴰ D Ds
+unfolding serving
+serving-some [] s m = absurd (List·Memᴰ·not-nil m)
+serving-some (E ∷ Ds) s m = pick (λ l. serving-some Ds s l) (eqb (E .modulus) s) refl
+  where
+    pick : (List·Memᴰ s (map modulusOf Ds) → (D : Matrix) × (serving Ds s ≡ some D) × List·Memᴰ D Ds) → (b : Bool) → eqb (E .modulus) s ≡ b
+        → (D : Matrix) × (cond b (some E) (serving Ds s) ≡ some D) × List·Memᴰ D (E ∷ Ds)
+    pick later true t = (E, refl, List·Memᴰ·head refl)
+    pick later false t =
+        let other = ⊎-elim (λ (e : s ≡ E .modulus). absurd (eqb-false (E .modulus) s t (sym e))) (λ l. l) (List·Memᴰ·cases-cons m) in
+        let (D, is, among) = later other in
+        (D, is, List·Memᴰ·tail among)
 
 abbrev placeOf : SumSource → Place
 placeOf (summed j D c) = left j
