@@ -21,6 +21,7 @@ use Rattle.order.proofs.OrderLaw.{reads-iff}
 use Rattle.places.specs.Places.{stepAt, stepIn, stepCount, operandsOf}
 use Rattle.places.specs.declared.Placed.the-variants.{Step as StepAt, Missing}
 use Rattle.places.proofs.Stands.{step-described}
+use Rattle.sheets.specs.Buffers.{Suffices}
 use Rattle.sheets.specs.Sheet.{LevelsAtMost, Sound, SmallEnough, Agree}
 use Rattle.sheets.specs.Steps.{Outcome, filled, refused, proceed, provided, opening, operation, sized, firstStep, laterStep, laterSteps, allSteps}
 use Rattle.sheets.specs.declared.answer.Refusal.{Refusal}
@@ -157,8 +158,8 @@ all-start o (s ∷ steps) = refl
 
 -- ---- on the way
 
-pub long-kept : {table levels scratch table′ levels′ scratch′ : List ℕ} → LongEnough table levels scratch
-    → length table′ ≡ length table → length levels′ ≡ length levels → length scratch′ ≡ length scratch → LongEnough table′ levels′ scratch′
+pub long-kept : {n m k n′ m′ k′ : ℕ} → Suffices (record { table = n; levels = m; scratch = k }) → n′ ≡ n → m′ ≡ m → k′ ≡ k
+    → Suffices (record { table = n′; levels = m′; scratch = k′ })
 long-kept long table-kept levels-kept scratch-kept =
     record {
       table-long = rw table-kept (long .table-long);

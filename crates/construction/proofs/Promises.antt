@@ -8,11 +8,12 @@ use Prim.Native.Nat.{ℕ, _+_, _*_, _≤_, _<_}
 use native.Mathlib.Nat.{mul-one, le-trans}
 use native.Mathlib.Omega.{arith}
 use lib.Dec.{T, eqb, leb, leb→le, le→leb, lit≤}
-use lib.ListN.{length, getD, length-replicate}
+use lib.ListN.{length, getD, length-append, length-replicate}
 use Rattle.finite.specs.Sum.{count}
 use Rattle.finite.proofs.Counts.{count-ext}
 use Rattle.finite.proofs.Tests.{T-and}
 use Rattle.counting.specs.Table.{Table, columns, levelsOf, shows, times, combinations, Apart, Settings, InRange, Even}
+use Rattle.sheets.specs.Refusals.{numberOf, answerNumbers}
 use Rattle.sheets.specs.Sheet.{Sound, SmallEnough}
 use Rattle.sheets.specs.Steps.{Outcome, filled, refused}
 use Rattle.sheets.specs.Outcome.{outcome}
@@ -22,14 +23,23 @@ use Rattle.sheets.specs.declared.answer.Refusal.the-variants.{ShortBuffers}
 use Rattle.sheets.specs.declared.answer.Answer.{Answer}
 use Rattle.sheets.specs.declared.answer.Answer.the-variants.{Filled, Refused}
 use Rattle.sheets.proofs.Carried.{refused-not-filled}
-use Rattle.sheets.proofs.Filled.{filled-fillable, fillable-filled, filled-sound}
-use Rattle.layout.specs.Bytes.{runsOf, zeros, padded, Holds, Zeros, LongEnough}
+use Rattle.sheets.proofs.NonEmpty.{NonEmpty}
+use Rattle.sheets.proofs.Filled.{filled-fillable, fillable-filled, filled-sound, filled-some}
+use Rattle.sheets.proofs.Numbers.{number-of-eleven}
+use Rattle.causes.specs.Causes.{Cause}
+use Rattle.causes.proofs.Refused.{refused-cause}
+use Rattle.layout.specs.Bytes.{runsOf, zeros, padded, Holds, Zeros, lengthsOf, LongEnough}
 use Rattle.layout.specs.Step.{Left}
-use Rattle.construction.specs.Promise.{suffice, planned, answerTo, tableBytes, levelBytes, Settled, EvenBytes, Promise}
+use Rattle.construction.specs.Promise.{suffice, planned, answerTo, plannedNumbers, tableBytes, levelBytes, Settled, EvenBytes, Delivered, Promise}
 use Rattle.layout.proofs.Bytes.{runs-length, runs-cell, zeros-all}
 use Rattle.layout.proofs.Sheets.{padded-length, padded-at, cells-few}
 
 -- ---- a sound table in bytes is even there
+
+-- what a buffer has at its front lies within it
+padded-within : (bytes front : List ℕ) → bytes ≡ padded (length bytes) front → length front ≤ length bytes
+unfolding padded
+padded-within bytes front e = omega (arith, simp length-append at (ap length e))
 
 module _ (S : Table) (table levels : List ℕ) (holds : Holds S table levels) where
   byte-level : (c : ℕ) → getD levels c 0 ≡ levelsOf S c
@@ -61,10 +71,14 @@ module _ (S : Table) (table levels : List ℕ) (holds : Holds S table levels) wh
         ∙ ap (λ v. eqb (S .cell r c) x && v) (sym (and-true (eqb (S .cell r d) y)))))
         ∙ sound .array .even (record { column = c; level = x } ∷ record { column = d; level = y } ∷ []) (lit≤ tt) (h, l, (apart, tt), (k, m, tt, tt))
 
-    pub even-bytes : EvenBytes (S .runs) (columns S) table levels
+    pub even-bytes : NonEmpty S → EvenBytes (S .runs) (columns S) table levels
     unfolding InRange
-    even-bytes =
+    even-bytes there =
         record {
+          runs-some = there .runs-some;
+          columns-some = there .columns-some;
+          entries-there = rw (← runs-length S) (padded-within table (runsOf S) (holds .runs-first));
+          counts-there = padded-within levels (S .levels) (holds .levels-first);
           in-range = λ r c h k. rw (byte-cell r c h k, byte-level c) (sound .array .in-range r c h k);
           levels-even = λ c x h k. rw (byte-level c) (one-even c x h (rw (← byte-level c) k));
           pairs-even = λ c d x y h k apart l m.
@@ -87,6 +101,9 @@ long-enough table levels scratch = (
       T-and (leb 65536 (length table) && leb 128 (length levels)) (leb 65536 (length scratch)) .1
       (T-and (leb 65536 (length table)) (leb 128 (length levels)) .1 (le→leb 65536 (length table) (long .table-long), le→leb 128 (length levels) (long .levels-long)), le→leb 65536 (length scratch) (long .scratch-long)),
 )
+
+refused-injective : {why other : Refusal} → refused why ≡ refused other → why ≡ other
+refused-injective e = cc
 
 pub refused-unfilled : {why : Refusal} {N m : ℕ} → Refused why ≡ Filled N m → ⊥
 refused-unfilled e = let none : _≡_ {A = ℕ} 0 1 = cc in absurd (omega arith)
@@ -131,6 +148,31 @@ unfolding planned
 planned-filled list table levels scratch long f =
     cond-true (suffice (length table) (length levels) (length scratch)) (outcome list) (refused ShortBuffers) (long-enough table levels scratch .1 long) ∙ fillable-filled list f
 
+-- a refusal has its cause, that of question 1 or of one of the others
+refused-planned : (list table levels scratch : List ℕ) {why : Refusal} → planned list (length table) (length levels) (length scratch) ≡ refused why
+    → Cause list (lengthsOf table levels scratch) why
+unfolding planned Cause
+refused-planned list table levels scratch {why} e = asked (suffice (length table) (length levels) (length scratch)) refl e
+  where
+    asked : (b : Bool) → suffice (length table) (length levels) (length scratch) ≡ b → cond b (outcome list) (refused ShortBuffers) ≡ refused why
+        → Cause list (lengthsOf table levels scratch) why
+    asked true is e = refused-cause list (lengthsOf table levels scratch) (long-enough table levels scratch .0 (subst T (sym is) tt)) e
+    asked false is e =
+        subst (Cause list (lengthsOf table levels scratch)) (refused-injective e)
+        (λ long. subst T is (long-enough table levels scratch .1 long))
+
+-- a refused answer is that of a refused outcome
+refused-answer : (o : Outcome) {why : Refusal} → answerTo o ≡ Refused why → o ≡ refused why
+unfolding answerTo
+refused-answer (filled S) e = absurd (refused-unfilled (sym e))
+refused-answer (refused other) e = ap refused cc
+
+-- an outcome's numbers are its answer's
+outcome-numbers : (o : Outcome) → answerNumbers (answerTo o) ≡ plannedNumbers o
+unfolding answerNumbers answerTo plannedNumbers
+outcome-numbers (filled S) = refl
+outcome-numbers (refused why) = refl
+
 -- The record of promises from the answer and the bytes.
 module _ (list table levels scratch : List ℕ) (answer : Answer) (table′ levels′ scratch′ : List ℕ)
     (answered : answer ≡ answerTo (planned list (length table) (length levels) (length scratch)))
@@ -143,13 +185,20 @@ module _ (list table levels scratch : List ℕ) (answer : Answer) (table′ leve
       let (long, done) = planned-passed list table levels scratch same in
       (long, filled-fillable list done .0)
 
-  conditions-ordered : LongEnough table levels scratch → (f : Fillable list) → table′ ≡ padded (length table) (runsOf (orderedTable list f))
-  unfolding tableBytes
-  conditions-ordered long f = table-is ∙ ap (tableBytes (length table)) (planned-filled list table levels scratch long f)
-
   conditions-filled : LongEnough table levels scratch → (f : Fillable list) → answer ≡ Filled (orderedTable list f .runs) (columns (orderedTable list f))
   unfolding answerTo
   conditions-filled long f = answered ∙ ap answerTo (planned-filled list table levels scratch long f)
+
+  conditions-ordered : LongEnough table levels scratch → (f : Fillable list)
+      → Delivered (orderedTable list f) (length table) (length levels) answer table′ levels′
+  unfolding tableBytes levelBytes
+  conditions-ordered long f =
+      let fills = planned-filled list table levels scratch long f in
+      record {
+        size-is = conditions-filled long f;
+        runs-are = table-is ∙ ap (tableBytes (length table)) fills;
+        counts-are = levels-are ∙ ap (levelBytes (length levels)) fills;
+      }
 
   filled-even : (N m : ℕ) → answer ≡ Filled N m → EvenBytes N m table′ levels′
   unfolding tableBytes levelBytes
@@ -162,7 +211,14 @@ module _ (list table levels scratch : List ℕ) (answer : Answer) (table′ leve
       (table-is ∙ ap (tableBytes (length table)) same)
       (levels-are ∙ ap (levelBytes (length levels)) same)
       in
-      subst (λ n. EvenBytes n m table′ levels′) runs (subst (λ k. EvenBytes (S .runs) k table′ levels′) many (even-bytes S table′ levels′ holds sound))
+      subst (λ n. EvenBytes n m table′ levels′) runs (subst (λ k. EvenBytes (S .runs) k table′ levels′) many (even-bytes S table′ levels′ holds sound (filled-some list done)))
+
+  refused-for : (why : Refusal) → answer ≡ Refused why
+      → ((1 ≤ numberOf why) × (numberOf why ≤ 11)) × Cause list (lengthsOf table levels scratch) why
+  refused-for why e = (number-of-eleven why, refused-planned list table levels scratch (refused-answer _ (sym answered ∙ e)))
+
+  in-numbers : answerNumbers answer ≡ plannedNumbers (planned list (length table) (length levels) (length scratch))
+  in-numbers = ap answerNumbers answered ∙ outcome-numbers (planned list (length table) (length levels) (length scratch))
 
   pub promised : Promise list table levels scratch answer table′ levels′ scratch′
   promised =
@@ -174,6 +230,8 @@ module _ (list table levels scratch : List ℕ) (answer : Answer) (table′ leve
         filled-when = (λ p. filled-conditions (p .0) (p .1) (p .2), λ q. (_, _, conditions-filled (q .0) (q .1)));
         ordered = conditions-ordered;
         even = filled-even;
+        refused-for = refused-for;
+        in-numbers = in-numbers;
       }
 
 -- ---- from what the questions left

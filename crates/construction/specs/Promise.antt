@@ -2,19 +2,22 @@
 use mathlib.Core.Path.{_≡_}
 use mathlib.Core.Logic.{_≢_, _↔_}
 use mathlib.Core.Bool.{Bool, cond, _&&_}
-use mathlib.Core.List.{List}
-use Prim.Native.Nat.{ℕ, _+_, _*_, _<_}
+use mathlib.Core.List.{List, [], _∷_}
+use Prim.Native.Nat.{ℕ, _+_, _*_, _≤_, _<_}
 use lib.Dec.{eqb, leb}
 use lib.ListN.{length, getD}
 use Rattle.finite.specs.Sum.{count}
-use Rattle.counting.specs.Table.{columns}
+use Rattle.counting.specs.Table.{Table, columns}
+use Rattle.sheets.specs.Refusals.{numbered, numberOf, answerNumbers}
 use Rattle.sheets.specs.Steps.{Outcome, filled, refused}
 use Rattle.sheets.specs.Outcome.{outcome}
 use Rattle.sheets.specs.Fillable.{Fillable, orderedTable}
+use Rattle.sheets.specs.declared.answer.Refusal.{Refusal}
 use Rattle.sheets.specs.declared.answer.Refusal.the-variants.{ShortBuffers}
 use Rattle.sheets.specs.declared.answer.Answer.{Answer}
 use Rattle.sheets.specs.declared.answer.Answer.the-variants.{Filled, Refused}
-use Rattle.layout.specs.Bytes.{runsOf, zeros, padded, LongEnough}
+use Rattle.causes.specs.Causes.{Cause}
+use Rattle.layout.specs.Bytes.{runsOf, zeros, padded, lengthsOf, LongEnough}
 
 -- Question 1, from the lengths of run table, level list and scratch alone
 abbrev pub suffice : ℕ → ℕ → ℕ → Bool
@@ -28,6 +31,11 @@ planned list n m k = cond (suffice n m k) (outcome list) (refused ShortBuffers)
 unfoldable pub answerTo : Outcome → Answer
 answerTo (filled S) = Filled (S .runs) (columns S)
 answerTo (refused why) = Refused why
+
+-- and the same in 01's numbers
+unfoldable pub plannedNumbers : Outcome → List ℕ
+plannedNumbers (filled S) = 0 ∷ S .runs ∷ columns S ∷ 0 ∷ 0 ∷ 0 ∷ 0 ∷ []
+plannedNumbers (refused why) = numbered why
 
 -- Every byte of a run table of n bytes at the end: the table run by run from byte 0, and zeros after it; all zeros where the order is refused.
 unfoldable pub tableBytes : ℕ → Outcome → List ℕ
@@ -48,6 +56,11 @@ pub record Settled (x : Outcome) (answer : Answer) (table levels : List ℕ) : T
 -- Demand 3, read off the bytes that were handed back: N runs of m columns lie one after the other in the run table, and the level counts in the
 -- level list.
 pub record EvenBytes (N m : ℕ) (table levels : List ℕ) : Type 0 where
+  -- there is a run and a column, and all entries and level counts lie within their buffers
+  pub runs-some : 1 ≤ N
+  pub columns-some : 1 ≤ m
+  pub entries-there : N * m ≤ length table
+  pub counts-there : m ≤ length levels
   -- every entry is one of its column's levels
   pub in-range : (r c : ℕ) → r < N → c < m → getD table (r * m + c) 0 < getD levels c 0
   -- each level of a column with s levels stands in exactly N ÷ s runs
@@ -55,6 +68,12 @@ pub record EvenBytes (N m : ℕ) (table levels : List ℕ) : Type 0 where
   -- each pair of levels of two columns with s and t levels stands in exactly N ÷ (s × t) runs
   pub pairs-even : (c d x y : ℕ) → c < m → d < m → c ≢ d → x < getD levels c 0 → y < getD levels d 0
       → getD levels c 0 * getD levels d 0 * count N (λ r. eqb (getD table (r * m + c) 0) x && eqb (getD table (r * m + d) 0) y) ≡ N
+
+-- What is handed back where S is the table that was ordered: its size, its runs and its level counts, in buffers of n and m bytes.
+pub record Delivered (S : Table) (n m : ℕ) (answer : Answer) (table levels : List ℕ) : Type 0 where
+  pub size-is : answer ≡ Filled (S .runs) (columns S)
+  pub runs-are : table ≡ padded n (runsOf S)
+  pub counts-are : levels ≡ padded m (S .levels)
 
 -- The promise, for a list and the buffers as they were, an answer, and the buffers as they are.
 pub record Promise (list table levels scratch : List ℕ) (answer : Answer) (table′ levels′ scratch′ : List ℕ) : Type 0 where
@@ -65,7 +84,12 @@ pub record Promise (list table levels scratch : List ℕ) (answer : Answer) (tab
   pub scratch-is : scratch′ ≡ zeros (length scratch)
   -- filled exactly when the stated conditions hold
   pub filled-when : ((N : ℕ) × (m : ℕ) × (answer ≡ Filled N m)) ↔ (LongEnough table levels scratch × Fillable list)
-  -- and then the runs are those of the table that the conditions' constructions give
-  pub ordered : LongEnough table levels scratch → (f : Fillable list) → table′ ≡ padded (length table) (runsOf (orderedTable list f))
+  -- and then size, runs and level counts are those of the table that the conditions' constructions give
+  pub ordered : LongEnough table levels scratch → (f : Fillable list) → Delivered (orderedTable list f) (length table) (length levels) answer table′ levels′
   -- in which every column and every two columns are even
   pub even : (N m : ℕ) → answer ≡ Filled N m → EvenBytes N m table′ levels′
+  -- a refusal is one of the eleven, its number is 01's, and its cause holds: the first No, with all that its details name
+  pub refused-for : (why : Refusal) → answer ≡ Refused why
+      → ((1 ≤ numberOf why) × (numberOf why ≤ 11)) × Cause list (lengthsOf table levels scratch) why
+  -- in numbers, the answer is 01's number and values: 0 with runs and columns for a filled order, or the refusal's
+  pub in-numbers : answerNumbers answer ≡ plannedNumbers (planned list (length table) (length levels) (length scratch))

@@ -22,4 +22,5 @@ pub mod NonEmpty
 pub mod Filled
 pub mod Agreement
 pub mod StepAgreement
+pub mod Numbers
 pub mod Starred

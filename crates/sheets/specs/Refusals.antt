@@ -1,6 +1,9 @@
--- The numbers of a refusal: document 01, "The questions, in turn".
+-- The numbers of a refusal and of an answer: document 01, "The questions, in turn".
 use mathlib.Core.List.{List, [], _∷_}
 use Prim.Native.Nat.{ℕ}
+use lib.ListN.{getD}
+use Rattle.sheets.specs.declared.answer.Answer.{Answer}
+use Rattle.sheets.specs.declared.answer.Answer.the-variants.{Filled, Refused}
 use Rattle.sheets.specs.declared.answer.Refusal.{Refusal}
 use Rattle.sheets.specs.declared.answer.Refusal.the-variants.{ShortBuffers, Unreadable, EntryOutOfRange, UnevenLevel, UnevenPair, UnevenDifference, Dependent, StepNotAllowed, PartsDoNotFit, NotTheSum, TooLarge}
 
@@ -17,3 +20,12 @@ numbered (StepNotAllowed step) = 8 ∷ step ∷ 0 ∷ 0 ∷ 0 ∷ 0 ∷ 0 ∷ []
 numbered (PartsDoNotFit step) = 9 ∷ step ∷ 0 ∷ 0 ∷ 0 ∷ 0 ∷ 0 ∷ []
 numbered (NotTheSum step run member) = 10 ∷ step ∷ run ∷ member ∷ 0 ∷ 0 ∷ 0 ∷ []
 numbered (TooLarge step runs columns) = 11 ∷ step ∷ runs ∷ columns ∷ 0 ∷ 0 ∷ 0 ∷ []
+
+-- the number alone
+abbrev pub numberOf : Refusal → ℕ
+numberOf why = getD (numbered why) 0 0
+
+-- An answer as seven numbers: a filled order has 0 in the place of a refusal's number, and then the numbers of runs and columns.
+unfoldable pub answerNumbers : Answer → List ℕ
+answerNumbers (Filled N m) = 0 ∷ N ∷ m ∷ 0 ∷ 0 ∷ 0 ∷ 0 ∷ []
+answerNumbers (Refused why) = numbered why
