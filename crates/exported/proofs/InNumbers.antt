@@ -4,29 +4,17 @@ use mathlib.Core.List.{List}
 use Prim.Native.Nat.{ℕ}
 use native.Mathlib.Omega.{arith}
 use lib.ListN.{getD}
-use Rattle.sheets.specs.Refusals.{numbered}
+use Rattle.sheets.specs.Refusals.{numbered, answerNumbers}
 use Rattle.sheets.specs.declared.answer.Refusal.{Refusal}
-use Rattle.sheets.specs.declared.answer.Refusal.the-variants.{ShortBuffers, Unreadable, EntryOutOfRange, UnevenLevel, UnevenPair, UnevenDifference, Dependent, StepNotAllowed, PartsDoNotFit, NotTheSum, TooLarge}
 use Rattle.sheets.specs.declared.answer.Answer.{Answer}
 use Rattle.sheets.specs.declared.answer.Answer.the-variants.{Filled, Refused}
+use Rattle.sheets.proofs.Numbers.{number-of-eleven}
 use Rattle.construction.specs.Promise.{Promise}
-use Rattle.exported.specs.Numbers.{answerNumbers}
 use Rattle.exported.specs.Exported.{answerFrom, PromiseInNumbers}
 
 -- no refusal has the number 0
 refusal-not-zero : (why : Refusal) → getD (numbered why) 0 0 ≡ 0 → ⊥
-unfolding numbered
-refusal-not-zero ShortBuffers e = omega arith
-refusal-not-zero (Unreadable place) e = omega arith
-refusal-not-zero (EntryOutOfRange place) e = omega arith
-refusal-not-zero (UnevenLevel i c x times) e = omega arith
-refusal-not-zero (UnevenPair i c d x y times) e = omega arith
-refusal-not-zero (UnevenDifference i c d x times) e = omega arith
-refusal-not-zero (Dependent i c d coefficients) e = omega arith
-refusal-not-zero (StepNotAllowed step) e = omega arith
-refusal-not-zero (PartsDoNotFit step) e = omega arith
-refusal-not-zero (NotTheSum step run member) e = omega arith
-refusal-not-zero (TooLarge step runs columns) e = omega arith
+refusal-not-zero why e = omega (arith, number-of-eleven why)
 
 -- so 0 is a filled order, of the size that the next two numbers say
 zero-filled : (a : Answer) → getD (answerNumbers a) 0 0 ≡ 0 → a ≡ Filled (getD (answerNumbers a) 1 0) (getD (answerNumbers a) 2 0)
@@ -37,6 +25,12 @@ zero-filled (Refused why) e = absurd (refusal-not-zero why e)
 filled-zero : (a : Answer) (N m : ℕ) → a ≡ Filled N m → getD (answerNumbers a) 0 0 ≡ 0
 unfolding answerNumbers
 filled-zero a N m e = ap (λ b. getD (answerNumbers b) 0 0) e
+
+-- and any other number is that of a refusal
+nonzero-refused : (a : Answer) → (getD (answerNumbers a) 0 0 ≡ 0 → ⊥) → (why : Refusal) × (a ≡ Refused why) × (answerNumbers a ≡ numbered why)
+unfolding answerNumbers
+nonzero-refused (Filled N m) n = absurd (n refl)
+nonzero-refused (Refused why) n = (why, refl, refl)
 
 module _ (list table levels scratch : List ℕ) (table′ levels′ scratch′ : List ℕ) where
   in-numbers-of : (a : Answer) → Promise list table levels scratch a table′ levels′ scratch′ → a ≡ answerFrom list table levels scratch
@@ -51,6 +45,10 @@ module _ (list table levels scratch : List ℕ) (table′ levels′ scratch′ :
           (λ h. let f = promise .filled-when .1 h in filled-zero a (f .0) (f .1) (f .2)),
         );
         even = λ z. promise .even _ _ (zero-filled a z);
+        refused-for = λ n.
+            let (why, is, numbers) = nonzero-refused a n in
+            let (number, cause) = promise .refused-for why is in
+            (rw numbers number, (why, numbers, cause));
       }
 
   pub in-numbers : {a : Answer} {number : ℕ} {numbers : List ℕ} → Promise list table levels scratch a table′ levels′ scratch′ → numbers ≡ answerNumbers a

@@ -2,13 +2,15 @@
 use mathlib.Core.Path.{_≡_}
 use mathlib.Core.Logic.{_↔_}
 use mathlib.Core.List.{List}
-use Prim.Native.Nat.{ℕ}
+use Prim.Native.Nat.{ℕ, _≤_}
 use lib.ListN.{length, getD}
+use Rattle.sheets.specs.Refusals.{numbered, answerNumbers}
 use Rattle.sheets.specs.Fillable.{Fillable}
+use Rattle.sheets.specs.declared.answer.Refusal.{Refusal}
 use Rattle.sheets.specs.declared.answer.Answer.{Answer}
-use Rattle.layout.specs.Bytes.{LongEnough}
+use Rattle.causes.specs.Causes.{Cause}
+use Rattle.layout.specs.Bytes.{lengthsOf, LongEnough}
 use Rattle.construction.specs.Promise.{planned, answerTo, EvenBytes, Promise}
-use Rattle.exported.specs.Numbers.{answerNumbers}
 
 -- the answer that the definitions give from the list and the lengths of run table, level list and scratch
 unfoldable pub answerFrom : List ℕ → List ℕ → List ℕ → List ℕ → Answer
@@ -25,3 +27,6 @@ pub record PromiseInNumbers (list table levels scratch : List ℕ) (number : ℕ
   pub filled-when : (number ≡ 0) ↔ (LongEnough table levels scratch × Fillable list)
   -- and then the second and the third say how many runs of how many columns lie in the run table, every column and every two columns even
   pub even : number ≡ 0 → EvenBytes (getD numbers 1 0) (getD numbers 2 0) table′ levels′
+  -- any other number is one of 1 to 11, and the seven are those of a refusal whose cause holds
+  pub refused-for : (number ≡ 0 → ⊥)
+      → ((1 ≤ number) × (number ≤ 11)) × ((why : Refusal) × (numbers ≡ numbered why) × Cause list (lengthsOf table levels scratch) why)

@@ -1,6 +1,6 @@
 // An answer as seven numbers: 01's number of a refusal, 0 for a filled order, and six details.
 ghost use mathlib.Core.Path.{_≡_};
-ghost use Rattle.exported.specs.Numbers.{answerNumbers};
+ghost use Rattle.sheets.specs.Refusals.{answerNumbers};
 use sheets::answer::Answer;
 use sheets::answer::numbers_of;
 

@@ -1,7 +1,7 @@
 -- `answer_numbers` meets its contract, case by case.
 use borrow.Author.Needs.{needs}
 use mathlib.Core.Path.{sym, _∙_, ap}
-use Rattle.exported.specs.Numbers.{answerNumbers}
+use Rattle.sheets.specs.Refusals.{answerNumbers}
 use Rattle.exported.proofs.numbers.answer_numbers.Statement.{statement}
 use Rattle.exported.proofs.numbers.answer_numbers.Tie as tie
 
