@@ -1,4 +1,5 @@
 pub mod Prefix
+pub mod Numbers
 pub mod Readers
 pub mod Unreadable
 pub mod OutOfRange

@@ -56,7 +56,10 @@ module _ (ok : ℕ → Bool) (start : ℕ) where
   found zero q e = absurd (not-in-range e)
   found (suc left) q {place} e = go (ok q) refl (λ e. found left (q + 1) e) e
     where
-      go : (b : Bool) → ok q ≡ b → (firstFailing ok start left (q + 1) ≡ OutOfRange place → FirstFails ok start left (q + 1) place) → when b (firstFailing ok start left (q + 1)) (OutOfRange (start + q)) ≡ OutOfRange place → FirstFails ok start (suc left) q place
+      go : (b : Bool) → ok q ≡ b
+          → (firstFailing ok start left (q + 1) ≡ OutOfRange place → FirstFails ok start left (q + 1) place)
+          → when b (firstFailing ok start left (q + 1)) (OutOfRange (start + q)) ≡ OutOfRange place
+          → FirstFails ok start (suc left) q place
       go true h rest e = one-earlier left q h (rest e)
       go false h rest e =
           let same : start + q ≡ place = cc in
@@ -88,7 +91,10 @@ module _ (from : ℕ) (g : Ingredient) where
   unfolding ingredientRange
   entry-found e = found isInside (entriesFrom from g) (length (entriesOf g)) 0 e
 
-  entry-finds : (q : ℕ) → q < length (entriesOf g) → ((r : ℕ) → r < q → EntryInRange g r) → bound g q ≤ getD (entriesOf g) q 0 → ingredientRange from g ≡ OutOfRange (entriesFrom from g + q)
+  entry-finds : (q : ℕ) → q < length (entriesOf g)
+      → ((r : ℕ) → r < q → EntryInRange g r)
+      → bound g q ≤ getD (entriesOf g) q 0
+      → ingredientRange from g ≡ OutOfRange (entriesFrom from g + q)
   unfolding ingredientRange
   entry-finds q inside earlier high =
       finds isInside (entriesFrom from g) q (length (entriesOf g)) inside (λ r h. lt-ltb _ _ (earlier r h)) (le-ltb _ _ high)
@@ -100,32 +106,44 @@ placeAfter at before = at + length (writtenAll writtenIngredient before)
 one-more : (at : ℕ) (g : Ingredient) (before : List Ingredient) → placeAfter (at + length (writtenIngredient g)) before ≡ placeAfter at (g ∷ before)
 one-more at g before = omega (arith, length-append (writtenIngredient g) (writtenAll writtenIngredient before))
 
--- The ingredient whose entry is the first out of range: all before it are in range.
-ingredient-found : {C : Type 0} (at : ℕ) (gs : List Ingredient) {place : ℕ} → ingredientsRange at gs ≡ OutOfRange place → ((before : List Ingredient) (g : Ingredient) (after : List Ingredient) → gs ≡ before ++ g ∷ after → All IngredientInRange before → ingredientRange (placeAfter at before + 3) g ≡ OutOfRange place → C) → C
+-- The ingredient with the first entry out of range: all before it are in range.
+ingredient-found : {C : Type 0} (at : ℕ) (gs : List Ingredient) {place : ℕ} → ingredientsRange at gs ≡ OutOfRange place
+    → ((before : List Ingredient) (g : Ingredient) (after : List Ingredient) → gs ≡ before ++ g ∷ after
+    → All IngredientInRange before
+    → ingredientRange (placeAfter at before + 3) g ≡ OutOfRange place
+    → C)
+    → C
 ingredient-found at [] e k = absurd (not-in-range e)
 ingredient-found {C} at (g ∷ gs) {place} e k =
+    let rest : ℕ = at + length (writtenIngredient g) in
     go (ingredientRange (at + 3) g) refl
-    (λ inside e. ingredient-found (at + length (writtenIngredient g)) gs e λ before g′ after same all range.
+    (λ inside e. ingredient-found rest gs e λ before g′ after same all range.
     k (g ∷ before) g′ after (ap (λ xs. g ∷ xs) same) (inside, all) (rw (← one-more at g before) range))
     e
   where
-    go : (x : Entries) → ingredientRange (at + 3) g ≡ x → (IngredientInRange g → ingredientsRange (at + length (writtenIngredient g)) gs ≡ OutOfRange place → C) → orElse x (ingredientsRange (at + length (writtenIngredient g)) gs) ≡ OutOfRange place → C
+    go : (x : Entries) → ingredientRange (at + 3) g ≡ x
+        → (IngredientInRange g → ingredientsRange (at + length (writtenIngredient g)) gs ≡ OutOfRange place → C)
+        → orElse x (ingredientsRange (at + length (writtenIngredient g)) gs) ≡ OutOfRange place
+        → C
     go InRange h rest e = rest (inside-iff (at + 3) g .0 h) e
     go (OutOfRange there) h rest e = k [] g gs refl tt (rw add-zero (h ∙ e))
     go Unread h rest e = absurd (let z : _≡_ {A = ℕ} 0 1 = cc in omega arith)
 
-ingredient-finds : (at : ℕ) (before : List Ingredient) (g : Ingredient) (after : List Ingredient) {place : ℕ} → All IngredientInRange before → ingredientRange (placeAfter at before + 3) g ≡ OutOfRange place → ingredientsRange at (before ++ g ∷ after) ≡ OutOfRange place
+ingredient-finds : (at : ℕ) (before : List Ingredient) (g : Ingredient) (after : List Ingredient) {place : ℕ} → All IngredientInRange before
+    → ingredientRange (placeAfter at before + 3) g ≡ OutOfRange place
+    → ingredientsRange at (before ++ g ∷ after) ≡ OutOfRange place
 ingredient-finds at [] g after all range = rw (rw add-zero at range)
 ingredient-finds at (b ∷ before) g after all range =
     rw (inside-iff (at + 3) b .1 (all .0))
     (ingredient-finds (at + length (writtenIngredient b)) before g after (all .1) (rw one-more range))
 
--- The writing of some and of more is that of both.
-all-parted : (before more : List Ingredient) → writtenAll writtenIngredient (before ++ more) ≡ writtenAll writtenIngredient before ++ writtenAll writtenIngredient more
+-- What is written of some ingredients and of more after them.
+all-parted : (before more : List Ingredient)
+    → writtenAll writtenIngredient (before ++ more) ≡ writtenAll writtenIngredient before ++ writtenAll writtenIngredient more
 all-parted [] more = refl
 all-parted (g ∷ before) more = rw (all-parted before more) (sym (append-assoc (writtenIngredient g) _ _))
 
--- Refusal 3 is about an order that was read.
+-- Question 3 is asked of an order that was read.
 module _ (list : List ℕ) (o : Order) (reads : Reads list o) where
   pub out-of-range : (place : ℕ) → rangeOf (readOrder list) ≡ OutOfRange place → FirstOutOfRange o place
   unfolding rangeOf
@@ -145,18 +163,19 @@ module _ (list : List ℕ) (o : Order) (reads : Reads list o) where
         earlier-ingredients = all;
       }
 
+  first-found : {place : ℕ} → FirstOutOfRange o place → rangeOf (readOrder list) ≡ OutOfRange place
+  unfolding rangeOf
+  first-found f =
+      let range = entry-finds (placeAfter 1 (f .before) + 3) (f .ingredient) (f .q) (f .entry) (f .earlier-entries) (f .out-of-range) in
+      rw (reads, f .one-of, f .stands) (ingredient-finds 1 (f .before) (f .ingredient) (f .after) (f .earlier-ingredients) range)
+
   -- The meaning of refusal 3.
   pub out-of-range-iff : (place : ℕ) → (rangeOf (readOrder list) ≡ OutOfRange place) ↔ FirstOutOfRange o place
-  unfolding rangeOf
-  out-of-range-iff place = (
-    out-of-range place,
-    λ f.
-        let range = entry-finds (placeAfter 1 (f .before) + 3) (f .ingredient) (f .q) (f .entry) (f .earlier-entries) (f .out-of-range) in
-        rw (reads, f .one-of, f .stands) (ingredient-finds 1 (f .before) (f .ingredient) (f .after) (f .earlier-ingredients) range),
-  )
+  out-of-range-iff place = (out-of-range place, first-found)
 
-  -- The writing of an ingredient stands after those before it,
-  ingredient-there : (before : List Ingredient) (g : Ingredient) (after : List Ingredient) → o .ingredients ≡ before ++ g ∷ after → Segment list (placeAfter 1 before) (writtenIngredient g) (placeAfter 1 before + length (writtenIngredient g))
+  -- An ingredient stands after those before it,
+  ingredient-there : (before : List Ingredient) (g : Ingredient) (after : List Ingredient) → o .ingredients ≡ before ++ g ∷ after
+      → Segment list (placeAfter 1 before) (writtenIngredient g) (placeAfter 1 before + length (writtenIngredient g))
   unfolding written
   ingredient-there before g after same =
       let whole : Segment list 0 (written o) (length list) = rw (reads-iff list o .0 reads .2) (segment-whole list) in
@@ -170,8 +189,12 @@ module _ (list : List ℕ) (o : Order) (reads : Reads list o) where
   pub entry-there : {place : ℕ} (f : FirstOutOfRange o place) → (place < length list) × (getD list place 0 ≡ getD (entriesOf (f .ingredient)) (f .q) 0)
   entry-there {place} f =
       let start : ℕ = firstEntry (f .before) (f .ingredient) in
-      let n : ℕ = length (entriesOf (f .ingredient)) in
-      let stretch : take n (drop start list) ≡ entriesOf (f .ingredient) = entries-stand (f .ingredient) (ingredient-there (f .before) (f .ingredient) (f .after) (f .one-of)) in (
+      let entries : List ℕ = entriesOf (f .ingredient) in
+      let n : ℕ = length entries in
+      let stretch : take n (drop start list) ≡ entries =
+      entries-stand (f .ingredient) (ingredient-there (f .before) (f .ingredient) (f .after) (f .one-of)) in
+      let number : getD (take n (drop start list)) (f .q) 0 ≡ getD list (start + f .q) 0 =
+      getD-take n (drop start list) (f .q) 0 (f .entry) ∙ getD-drop start list (f .q) 0 in (
         omega (arith, f .stands, f .entry, ap length stretch, length-take n (drop start list), length-drop start list),
-        rw (f .stands) (sym (getD-drop start list (f .q) 0) ∙ sym (getD-take n (drop start list) (f .q) 0 (f .entry)) ∙ ap (λ (xs : List ℕ). getD xs (f .q) 0) stretch),
+        rw (f .stands, ← number, stretch),
       )

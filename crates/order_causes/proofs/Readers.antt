@@ -1,22 +1,23 @@
--- The readers of ingredients, steps and orders refuse at once. Each test is passed by some number: the least level count, p, field size and prime are 2, and
--- whatever the number of coordinates is, s = 2 is not too large.
+-- The readers of ingredients, steps and orders refuse at once. Some number passes each test: of the sizes of fields 2, since 2^9 is 512; of widths 1.
 -- Assumes nothing.
 use mathlib.Core.Path.{_≡_, refl}
 use mathlib.Core.Bool.{Bool, true, false}
-use mathlib.Core.List.{List, [], _∷_}
-use Prim.Native.Nat.{ℕ, zero, suc, _+_, _*_, _^_, _≤_}
+use mathlib.Core.List.{List}
+use Prim.Native.Nat.{ℕ, _+_, _*_, _≤_}
 use native.Mathlib.Nat.{pow-le-pow-left, pow-le-pow-right, le-trans}
 use native.Mathlib.Omega.{arith}
-use borrow.Author.Tests.{eqb-true, eqb-false}
+use borrow.Author.Tests.{eqb-false}
 use lib.Dec.{eqb, lit≤}
-use Rattle.order.specs.Order.{Ingredient, table, matrix, generator, Step, TAKE, FIELD, SUM, MERGE, SPLIT, Order, total, FieldSize, Width}
+use Rattle.order.specs.Order.{table, matrix, generator, Step, TAKE, FIELD, SUM, MERGE, SPLIT, total, FieldSize, Width}
 use Rattle.order.specs.Reader.{Reader, when, allowed}
-use Rattle.order.specs.Grammar.{between, fieldSize, width, mergePrime, ingredientNumber, noneOrIngredient, tableBody, matrixBody, generatorBody, body, mostRows, readIngredient, readNaming, readSum, readMerge, readSplit, stepOf, readStep, readParts}
+use Rattle.order.specs.Grammar.{fieldSize, width, mergePrime, ingredientNumber, noneOrIngredient, mostRows}
+use Rattle.order.specs.Grammar.{tableBody, matrixBody, generatorBody, readIngredient, readNaming, readSum, readMerge, readSplit, readStep, readParts}
 use Rattle.order.proofs.Tests.{fieldSize-iff, width-iff}
 use Rattle.order.proofs.Law.{Law}
 use Rattle.order.proofs.ByKind.{between-law}
 use Rattle.order.proofs.IngredientLaw.{fieldSize-law}
-use Rattle.order_causes.proofs.Prefix.{RefusesAtOnce, Gives, give-at-once, bind-at-once, times-at-once, when-at-once, allowed-at-once, between-at-once, counted-at-once, numbers-at-once}
+use Rattle.order_causes.proofs.Prefix.{RefusesAtOnce, Gives, give-at-once, bind-at-once, times-at-once, when-at-once}
+use Rattle.order_causes.proofs.Numbers.{allowed-at-once, between-at-once, counted-at-once, numbers-at-once}
 
 -- What a reader with a law gives is within the law's limits.
 within : {A : Type 0} {r : Reader A} {P : A → Type 0} {w : A → List ℕ} → Law r P w → (a : A) → Gives r a → P a

@@ -10,12 +10,12 @@ use native.Mathlib.Omega.{arith}
 use native.Mathlib.Decide.{decLe}
 use borrow.Author.Tests.{ltb-true, ltb-false}
 use lib.Dec.{ltb}
-use lib.ListN.{length, take, drop, take-append-drop, length-append}
+use lib.ListN.{length, take, drop, take-append-drop}
 use lib.Seq.{length-take-le, take-length, take-take, take-at, drop-length}
 use Rattle.order.specs.Order.{Order, WithinLimits, written}
 use Rattle.order.specs.Reader.{Parsed, value, refused, when, continue}
 use Rattle.order.specs.Grammar.{readParts, atEnd, readOrder, Reads}
-use Rattle.order.proofs.Segment.{Segment, segment-whole, segment-numbers}
+use Rattle.order.proofs.Segment.{segment-whole, segment-numbers}
 use Rattle.order.proofs.Law.{refused-no-value}
 use Rattle.order.proofs.OrderLaw.{parts-law, reads-iff, read-to-end}
 use Rattle.order_causes.specs.Causes.{Begins, NotAnOrder, too-long, stops, runs-out}
@@ -48,7 +48,8 @@ module _ (list : List ℕ) (short : length list ≤ 32768) where
       elim (decLe (place + 1) (length list)) [
         | yes more ↦ stops short (omega arith) begun λ b.
             let start : SameStart (place + 1) list (written (b .order)) = begins-same (place + 1) list more b in
-            let same : readParts (written (b .order)) 0 ≡ readParts list 0 = parts-at-once .decided list (written (b .order)) 0 (omega arith) (rw e start) in
+            let same : readParts (written (b .order)) 0 ≡ readParts list 0 =
+            parts-at-once .decided list (written (b .order)) 0 (omega arith) (rw e start) in
             refused-no-value (sym e ∙ sym same ∙ written-reads (b .order) (b .limits))
         | no none ↦
             let there : place ≡ length list = omega arith in
@@ -72,7 +73,9 @@ module _ (list : List ℕ) (short : length list ≤ 32768) where
       let ends : next ≡ length (written (b .order)) = cc in
       omega (arith, same-length start)
 
-  refused-after : (p : Parsed Order) (place : ℕ) → readParts list 0 ≡ p → continue p (λ o next. atEnd o list next) ≡ refused place → NotAnOrder list place
+  refused-after : (p : Parsed Order) (place : ℕ) → readParts list 0 ≡ p
+      → continue p (λ o next. atEnd o list next) ≡ refused place
+      → NotAnOrder list place
   refused-after (value o next) place v e = go (ltb next (length list)) refl e
     where
       go : (b : Bool) → ltb next (length list) ≡ b → when b (refused next) (value o (length list)) ≡ refused place → NotAnOrder list place
@@ -84,7 +87,9 @@ pub unreadable : (list : List ℕ) (place : ℕ) → readOrder list ≡ refused 
 unfolding readOrder
 unreadable list place e = go (ltb 32768 (length list)) refl e
   where
-    go : (b : Bool) → ltb 32768 (length list) ≡ b → when b (refused 32768) (continue (readParts list 0) (λ o next. atEnd o list next)) ≡ refused place → NotAnOrder list place
+    go : (b : Bool) → ltb 32768 (length list) ≡ b
+        → when b (refused 32768) (continue (readParts list 0) (λ o next. atEnd o list next)) ≡ refused place
+        → NotAnOrder list place
     go true long e = let same : 32768 ≡ place = cc in too-long (ltb-true 32768 (length list) long) (sym same)
     go false short e = refused-after list (ltb-false 32768 (length list) short) (readParts list 0) place refl e
 

@@ -19,9 +19,17 @@ pub data NotAnOrder (list : List ℕ) (place : ℕ) : Type 0 where
   -- over 32,768 numbers
   too-long : 32768 < length list → place ≡ 32768 → NotAnOrder list place
   -- the number at the place is not allowed, or left over: what stands before it begins the writing of an order, and with it that is no longer so
-  stops : length list ≤ 32768 → place < length list → Begins (take place list) → (Begins (take (place + 1) list) → ⊥) → NotAnOrder list place
-  -- the list runs out: it begins the writing of an order, and is the writing of none
-  runs-out : length list ≤ 32768 → place ≡ length list → Begins list → ((o : Order) → WithinLimits o → written o ≡ list → ⊥) → NotAnOrder list place
+  stops : length list ≤ 32768
+      → place < length list
+      → Begins (take place list)
+      → (Begins (take (place + 1) list) → ⊥)
+      → NotAnOrder list place
+  -- the list runs out: it begins the writing of an order, and is itself the writing of none
+  runs-out : length list ≤ 32768
+      → place ≡ length list
+      → Begins list
+      → ((o : Order) → WithinLimits o → written o ≡ list → ⊥)
+      → NotAnOrder list place
 
 -- Entry number q of an ingredient, from 0, is below its levels, p or s.
 abbrev pub EntryInRange : Ingredient → ℕ → Type 0
@@ -31,8 +39,8 @@ EntryInRange g q = getD (entriesOf g) q 0 < bound g q
 abbrev pub IngredientInRange : Ingredient → Type 0
 IngredientInRange g = (q : ℕ) → q < length (entriesOf g) → EntryInRange g q
 
--- The place of the first entry of an ingredient that stands after others: the list starts with the number of ingredients, and each ingredient with kind, rows
--- and columns.
+-- The place of the first entry of an ingredient that is written after others: the list starts with the number of ingredients, and each of them with
+-- kind, rows and columns.
 abbrev pub firstEntry : List Ingredient → Ingredient → ℕ
 firstEntry before g = entriesFrom (1 + length (writtenAll writtenIngredient before) + 3) g
 
