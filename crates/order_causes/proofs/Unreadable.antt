@@ -26,6 +26,9 @@ use Rattle.order_causes.proofs.Readers.{parts-at-once}
 written-reads : (o : Order) → WithinLimits o → readParts (written o) 0 ≡ value o (length (written o))
 written-reads o h = parts-law .complete (written o) 0 o (length (written o)) h (segment-whole (written o))
 
+begins-reads : {numbers : List ℕ} (b : Begins numbers) → readParts (written (b .order)) 0 ≡ value (b .order) (length (written (b .order)))
+begins-reads b = written-reads (b .order) (b .limits)
+
 -- Numbers that can be completed to what reads as an order begin its writing.
 completed-begins : (front : List ℕ) → Completion readParts front 0 → Begins front
 completed-begins front c =
@@ -50,7 +53,7 @@ module _ (list : List ℕ) (short : length list ≤ 32768) where
             let start : SameStart (place + 1) list (written (b .order)) = begins-same (place + 1) list more b in
             let same : readParts (written (b .order)) 0 ≡ readParts list 0 =
             parts-at-once .decided list (written (b .order)) 0 (omega arith) (rw e start) in
-            refused-no-value (sym e ∙ sym same ∙ written-reads (b .order) (b .limits))
+            refused-no-value (sym e ∙ sym same ∙ begins-reads b)
         | no none ↦
             let there : place ≡ length list = omega arith in
             runs-out short there (rw (there, take-length) at begun) λ o h w.
@@ -69,7 +72,7 @@ module _ (list : List ℕ) (short : length list ≤ 32768) where
       let start : SameStart (next + 1) list (written (b .order)) = begins-same (next + 1) list (omega arith) b in
       let same : readParts (written (b .order)) 0 ≡ value o next =
       value-decided parts-at-once list (written (b .order)) 0 (omega arith) e (same-fewer next (omega arith) start) in
-      let whole = written-reads (b .order) (b .limits) in
+      let whole = begins-reads b in
       let ends : next ≡ length (written (b .order)) = cc in
       omega (arith, same-length start)
 
