@@ -37,6 +37,7 @@ record FirstFails (ok : ℕ → Bool) (start left q place : ℕ) : Type 0 where
 not-in-range : {place : ℕ} → InRange ≡ OutOfRange place → ⊥
 not-in-range e = let z : _≡_ {A = ℕ} 0 1 = cc in omega arith
 
+-- What the search finds is the first.
 module _ (ok : ℕ → Bool) (start : ℕ) where
   one-earlier : (left q : ℕ) {place : ℕ} → ok q ≡ true → FirstFails ok start left (q + 1) place → FirstFails ok start (suc left) q place
   one-earlier left q h f =
@@ -145,6 +146,7 @@ all-parted (g ∷ before) more = rw (all-parted before more) (sym (append-assoc 
 
 -- Question 3 is asked of an order that was read.
 module _ (list : List ℕ) (o : Order) (reads : Reads list o) where
+  -- A refusal has its cause.
   pub out-of-range : (place : ℕ) → rangeOf (readOrder list) ≡ OutOfRange place → FirstOutOfRange o place
   unfolding rangeOf
   out-of-range place e =

@@ -76,6 +76,7 @@ module _ (list : List ℕ) (short : length list ≤ 32768) where
       let ends : next ≡ length (written (b .order)) = cc in
       omega (arith, same-length start)
 
+  -- Either is what a refusal of a list that is not too long comes from.
   refused-after : (p : Parsed Order) (place : ℕ) → readParts list 0 ≡ p
       → continue p (λ o next. atEnd o list next) ≡ refused place
       → NotAnOrder list place
@@ -86,6 +87,7 @@ module _ (list : List ℕ) (short : length list ≤ 32768) where
       go false done e = absurd (no-refusal e)
   refused-after (refused there) place v e = let same : there ≡ place = cc in parts-refused place (v ∙ rw same)
 
+-- A refusal has its cause.
 pub unreadable : (list : List ℕ) (place : ℕ) → readOrder list ≡ refused place → NotAnOrder list place
 unfolding readOrder
 unreadable list place e = go (ltb 32768 (length list)) refl e
