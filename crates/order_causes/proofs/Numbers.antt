@@ -15,7 +15,7 @@ use Rattle.order.specs.Reader.{Parsed, value, refused, Reader, when, allowed, n
 use Rattle.order.specs.Grammar.{between, counted}
 use Rattle.order.proofs.Tests.{between-iff}
 use Rattle.order_causes.proofs.Prefix.{decides, Forward, SameStart, same-length, same-number, Completion, no-refusal}
-use Rattle.order_causes.proofs.Prefix.{RefusesAtOnce, bind-at-once, times-at-once}
+use Rattle.order_causes.proofs.Prefix.{RefusesAtOnce, bind-at-once, repeated-at-once}
 
 module _ (test : ℕ → Bool) where
   -- The number x is read, or refused.
@@ -85,7 +85,7 @@ pub between-at-once : (low high : ℕ) → low ≤ high → RefusesAtOnce (allow
 between-at-once low high h = allowed-at-once (between low high) low (between-iff low high low .1 (le-refl low, h))
 
 pub counted-at-once : {A : Type 0} {r : Reader A} (low high : ℕ) → low ≤ high → RefusesAtOnce r → RefusesAtOnce (counted low high r)
-counted-at-once low high h at-once = bind-at-once (between-at-once low high h) λ n g. times-at-once at-once n
+counted-at-once low high h at-once = bind-at-once (between-at-once low high h) λ n g. repeated-at-once at-once n
 
 module _ (n : ℕ) where
   numbers-there : (list : List ℕ) (at : ℕ) → at + n ≤ length list → numbers n list at ≡ value (take n (drop at list)) (at + n)

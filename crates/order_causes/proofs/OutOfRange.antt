@@ -12,17 +12,17 @@ use borrow.Author.Tests.{lt-ltb, le-ltb, ltb-true, ltb-false}
 use lib.Dec.{ltb}
 use lib.ListN.{length, getD, take, drop, length-append, length-take, length-drop}
 use lib.Seq.{getD-take, getD-drop}
-use Rattle.order.specs.Order.{Ingredient, Order, All, writtenIngredient, writtenStep, writtenAll, written}
+use Rattle.order.specs.Order.{Ingredient, entriesOf, Order, All, writtenIngredient, writtenStep, writtenAll, written}
 use Rattle.order.specs.Reader.{when}
 use Rattle.order.specs.Grammar.{readOrder, Reads}
 use Rattle.order.specs.Answers.{entriesFrom}
-use Rattle.order.specs.Range.{entriesOf, bound, firstFailing, ingredientRange, orElse, ingredientsRange, rangeOf}
-use Rattle.order.specs.declared.Entries.{Entries}
-use Rattle.order.specs.declared.Entries.the-variants.{InRange, OutOfRange, Unread}
+use Rattle.entry_range.specs.Range.{bound, firstFailing, ingredientRange, earlier, ingredientsRange, rangeOf}
+use Rattle.entry_range.specs.declared.Entries.{Entries}
+use Rattle.entry_range.specs.declared.Entries.the-variants.{InRange, OutOfRange, Unread}
 use Rattle.order.proofs.Segment.{Segment, segment-whole, part-left, part-right}
 use Rattle.order.proofs.OrderLaw.{reads-iff}
-use Rattle.order.proofs.Stands.{entries-stand}
-use Rattle.order.proofs.Failing.{failing-none, failing-parts, failing-stop}
+use Rattle.places.proofs.Stands.{entries-stand}
+use Rattle.entry_range.proofs.Failing.{failing-none, failing-parts, failing-stop}
 use Rattle.order_causes.specs.Causes.{EntryInRange, IngredientInRange, firstEntry, FirstOutOfRange}
 
 -- The first of left numbers from q on that fails the test.
@@ -124,7 +124,7 @@ ingredient-found {C} at (g ∷ gs) {place} e k =
   where
     go : (x : Entries) → ingredientRange (at + 3) g ≡ x
         → (IngredientInRange g → ingredientsRange (at + length (writtenIngredient g)) gs ≡ OutOfRange place → C)
-        → orElse x (ingredientsRange (at + length (writtenIngredient g)) gs) ≡ OutOfRange place
+        → earlier x (ingredientsRange (at + length (writtenIngredient g)) gs) ≡ OutOfRange place
         → C
     go InRange h rest e = rest (inside-iff (at + 3) g .0 h) e
     go (OutOfRange there) h rest e = k [] g gs refl tt (rw add-zero (h ∙ e))

@@ -9,7 +9,7 @@ use native.Mathlib.Nat.{le-refl}
 use native.Mathlib.Omega.{arith}
 use lib.ListN.{length, getD, take, length-append, length-take}
 use lib.Seq.{length-take-le, take-length, take-append-le, take-append-seam, take-take, getD-take}
-use Rattle.order.specs.Reader.{Parsed, value, refused, Reader, when, continue, _>>=_, give, times}
+use Rattle.order.specs.Reader.{Parsed, value, refused, Reader, when, continue, _>>=_, give, repeated}
 use Rattle.order.proofs.Law.{refused-no-value}
 
 -- How far a reading comes: to the place after the value, or to the refused one.
@@ -172,9 +172,9 @@ module _ {A B : Type 0} {r : Reader A} {f : A → Reader B} (first : RefusesAtOn
   bind-at-once = record { forward = bind-forward; decided = bind-decided; completes = bind-completes }
 
 -- n times what a reader reads.
-pub times-at-once : {A : Type 0} {r : Reader A} → RefusesAtOnce r → (n : ℕ) → RefusesAtOnce (times n r)
-times-at-once h zero = give-at-once []
-times-at-once h (suc n) = bind-at-once h λ x g. bind-at-once (times-at-once h n) λ xs g′. give-at-once (x ∷ xs)
+pub repeated-at-once : {A : Type 0} {r : Reader A} → RefusesAtOnce r → (n : ℕ) → RefusesAtOnce (repeated n r)
+repeated-at-once h zero = give-at-once []
+repeated-at-once h (suc n) = bind-at-once h λ x g. bind-at-once (repeated-at-once h n) λ xs g′. give-at-once (x ∷ xs)
 
 -- The one of two readers that a test chooses.
 pub when-at-once : {A : Type 0} (b : Bool) {r s : Reader A} → (b ≡ true → RefusesAtOnce r) → (b ≡ false → RefusesAtOnce s)

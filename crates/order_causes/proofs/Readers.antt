@@ -8,15 +8,15 @@ use native.Mathlib.Nat.{pow-le-pow-left, pow-le-pow-right, le-trans}
 use native.Mathlib.Omega.{arith}
 use borrow.Author.Tests.{eqb-false}
 use lib.Dec.{eqb, lit≤}
-use Rattle.order.specs.Order.{table, matrix, generator, Step, TAKE, FIELD, SUM, MERGE, SPLIT, total, FieldSize, Width}
+use Rattle.order.specs.Order.{table, matrix, generator, Step, TAKE, FIELD, SUM, MERGE, SPLIT, total, GeneratorField, FactorWidth}
 use Rattle.order.specs.Reader.{Reader, when, allowed}
-use Rattle.order.specs.Grammar.{fieldSize, width, mergePrime, ingredientNumber, noneOrIngredient, mostRows}
+use Rattle.order.specs.Grammar.{generatorField, factorWidth, mergePrime, ingredientNumber, noneOrIngredient, mostRows}
 use Rattle.order.specs.Grammar.{tableBody, matrixBody, generatorBody, readIngredient, readNaming, readSum, readMerge, readSplit, readStep, readParts}
-use Rattle.order.proofs.Tests.{fieldSize-iff, width-iff}
+use Rattle.order.proofs.Tests.{generatorField-iff, factorWidth-iff}
 use Rattle.order.proofs.Law.{Law}
 use Rattle.order.proofs.ByKind.{between-law}
-use Rattle.order.proofs.IngredientLaw.{fieldSize-law}
-use Rattle.order_causes.proofs.Prefix.{RefusesAtOnce, Gives, give-at-once, bind-at-once, times-at-once, when-at-once}
+use Rattle.order.proofs.IngredientLaw.{generatorField-law}
+use Rattle.order_causes.proofs.Prefix.{RefusesAtOnce, Gives, give-at-once, bind-at-once, repeated-at-once, when-at-once}
 use Rattle.order_causes.proofs.Numbers.{allowed-at-once, between-at-once, counted-at-once, numbers-at-once}
 
 -- What a reader with a law gives is within the law's limits.
@@ -26,7 +26,7 @@ within law a (list, at, next, e) = law .sound list at a next e .0
 table-at-once : (rows columns : ℕ) → RefusesAtOnce (tableBody rows columns)
 unfolding tableBody
 table-at-once rows columns =
-    bind-at-once (times-at-once (between-at-once 2 64 (omega arith)) columns) λ levels g.
+    bind-at-once (repeated-at-once (between-at-once 2 64 (omega arith)) columns) λ levels g.
     bind-at-once (numbers-at-once (rows * columns)) λ entries g′. give-at-once (table rows levels entries)
 
 matrix-at-once : (rows columns : ℕ) → RefusesAtOnce (matrixBody rows columns)
@@ -38,11 +38,11 @@ matrix-at-once rows columns =
 generator-at-once : (t n : ℕ) → t ≤ 9 → RefusesAtOnce (generatorBody t n)
 unfolding generatorBody
 generator-at-once t n few =
-    let two : FieldSize t 2 = (omega arith, (λ e. omega arith), le-trans (pow-le-pow-right {n = 2} (omega arith) few) (lit≤ tt)) in
-    bind-at-once (allowed-at-once (fieldSize t) 2 (fieldSize-iff t 2 .1 two)) λ s g.
-    let size = within (fieldSize-law t) s g in
-    let one : Width s 1 = (omega arith, le-trans (pow-le-pow-left (size .0 .1) 1) (lit≤ tt)) in
-    bind-at-once (times-at-once (allowed-at-once (width s) 1 (width-iff s 1 .1 one)) n) λ widths g′.
+    let two : GeneratorField t 2 = (omega arith, (λ e. omega arith), le-trans (pow-le-pow-right {n = 2} (omega arith) few) (lit≤ tt)) in
+    bind-at-once (allowed-at-once (generatorField t) 2 (generatorField-iff t 2 .1 two)) λ s g.
+    let size = within (generatorField-law t) s g in
+    let one : FactorWidth s 1 = (omega arith, le-trans (pow-le-pow-left (size .0 .1) 1) (lit≤ tt)) in
+    bind-at-once (repeated-at-once (allowed-at-once (factorWidth s) 1 (factorWidth-iff s 1 .1 one)) n) λ widths g′.
     bind-at-once (numbers-at-once (t * total widths)) λ entries g″. give-at-once (generator t s widths entries)
 
 ingredient-at-once : RefusesAtOnce readIngredient
@@ -80,7 +80,7 @@ merge-at-once : RefusesAtOnce readMerge
 unfolding readMerge
 merge-at-once =
     bind-at-once (allowed-at-once mergePrime 2 refl) λ p g.
-    bind-at-once (times-at-once (between-at-once 1 128 (omega arith)) (p + 1)) λ cs g′. give-at-once (MERGE p cs)
+    bind-at-once (repeated-at-once (between-at-once 1 128 (omega arith)) (p + 1)) λ cs g′. give-at-once (MERGE p cs)
 
 split-at-once : RefusesAtOnce readSplit
 unfolding readSplit

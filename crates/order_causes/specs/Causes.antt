@@ -3,9 +3,9 @@ use mathlib.Core.Path.{_≡_}
 use mathlib.Core.List.{List, _∷_, _++_}
 use Prim.Native.Nat.{ℕ, _+_, _≤_, _<_}
 use lib.ListN.{length, getD, take}
-use Rattle.order.specs.Order.{Ingredient, Order, All, WithinLimits, writtenIngredient, writtenAll, written}
+use Rattle.order.specs.Order.{Ingredient, entriesOf, Order, All, WithinLimits, writtenIngredient, writtenAll, written}
 use Rattle.order.specs.Answers.{entriesFrom}
-use Rattle.order.specs.Range.{entriesOf, bound}
+use Rattle.entry_range.specs.Range.{bound}
 
 -- The numbers begin the writing of some order within its limits, however long that writing is.
 pub record Begins (numbers : List ℕ) : Type 0 where
