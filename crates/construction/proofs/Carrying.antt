@@ -37,7 +37,7 @@ use Rattle.layout.specs.Bytes.{Holds, Zeros, LongEnough, sheetIn}
 use Rattle.layout.specs.Step.{Readable, Stands, Ready, firstIn, laterIn, Left}
 use Rattle.construction.specs.Carry.{Passing, Underway, startIn, proceedIn, allIn}
 use Rattle.layout.specs.declared.Size.{Size}
-use Rattle.construction.proofs.Promises.{refused-unfilled}
+use Rattle.promise.proofs.Promises.{refused-unfilled}
 use Rattle.layout.proofs.Operands.{in-order, first-in, later-in, stands-step}
 use Rattle.layout.proofs.Sheets.{holds-agrees, agree-holds}
 

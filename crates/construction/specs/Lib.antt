@@ -1,2 +1,1 @@
 pub mod Carry
-pub mod Promise

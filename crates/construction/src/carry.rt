@@ -4,7 +4,7 @@ ghost use lib.ListN.{length};
 ghost use Rattle.layout.specs.Bytes.{Zeros, LongEnough, sheetIn};
 ghost use Rattle.layout.specs.Step.{Readable, Stands, Ready, firstIn, laterIn, Left};
 ghost use Rattle.construction.specs.Carry.{Passing, Underway, startIn, proceedIn, allIn};
-ghost use Rattle.construction.specs.Promise.{Settled};
+ghost use Rattle.promise.specs.Promise.{Settled};
 use buffers::clear;
 use layout::Size;
 use merging::merge;

@@ -3,7 +3,7 @@ mod carry; // carry.rt: the steps, one after the other
 mod fill; // fill.rt: questions 2 to 8
 
 ghost use mathlib.Core.Path.{_≡_};
-ghost use Rattle.construction.specs.Promise.{suffice, Promise};
+ghost use Rattle.promise.specs.Promise.{suffice, Promise};
 use buffers::clear;
 use fill::fill;
 use sheets::answer::Answer;

@@ -9,7 +9,7 @@ use Rattle.sheets.specs.declared.answer.Refusal.{Refusal}
 use Rattle.sheets.specs.declared.answer.Answer.{Answer}
 use Rattle.sheets.specs.declared.answer.Answer.the-variants.{Filled, Refused}
 use Rattle.sheets.proofs.Numbers.{number-of-eleven}
-use Rattle.construction.specs.Promise.{Promise}
+use Rattle.promise.specs.Promise.{Promise}
 use Rattle.exported.specs.Exported.{answerFrom, PromiseInNumbers}
 
 -- no refusal has the number 0

@@ -16,7 +16,7 @@ use Rattle.sheets.specs.declared.answer.Answer.{Answer}
 use Rattle.sheets.proofs.Carried.{refused-not-filled}
 use Rattle.sheets.proofs.Filled.{filled-sound}
 use Rattle.layout.specs.Bytes.{runOf, runsOf, zeros, padded}
-use Rattle.construction.specs.Promise.{suffice, planned, answerTo, tableBytes, levelBytes, Promise}
+use Rattle.promise.specs.Promise.{suffice, planned, answerTo, tableBytes, levelBytes, Promise}
 use Rattle.layout.proofs.Bytes.{runs-length}
 use Rattle.layout.proofs.Sheets.{padded-length, cells-few}
 use Rattle.report.specs.Report.{answerLines, lineCount, TableInBuffers, Printable, outcomePrinted}

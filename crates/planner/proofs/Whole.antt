@@ -10,7 +10,7 @@ use Rattle.sheets.specs.Outcome.{outcome}
 use Rattle.sheets.specs.declared.answer.Refusal.the-variants.{ShortBuffers, Unreadable}
 use Rattle.sheets.specs.declared.answer.Answer.{Answer}
 use Rattle.words.specs.declared.Scanned.the-variants.{Numbers, Refused}
-use Rattle.construction.specs.Promise.{suffice, planned, Promise}
+use Rattle.promise.specs.Promise.{suffice, planned, Promise}
 use Rattle.report.specs.Report.{refusalLine, answerLines, outcomePrinted, readingPrinted, output}
 use Rattle.planner.specs.Scanned.{ScannedWhole}
 use Rattle.planner.proofs.Printing.{promise-printed}

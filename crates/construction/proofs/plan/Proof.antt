@@ -3,7 +3,7 @@ use borrow.Author.Needs.{needs}
 use mathlib.Core.Path.{sym, _∙_}
 use lib.ListN.{length}
 use Rattle.layout.proofs.Bytes.{zeros-all}
-use Rattle.construction.proofs.Promises.{cleared-long, promise-short, promise-asked}
+use Rattle.promise.proofs.Promises.{cleared-long, promise-short, promise-asked}
 use Rattle.construction.proofs.plan.Statement.{statement}
 use Rattle.construction.proofs.plan.Tie as tie
 

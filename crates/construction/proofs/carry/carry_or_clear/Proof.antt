@@ -1,6 +1,6 @@
 -- `construction::carry::carry_or_clear` meets its contract: what the steps leave, and zeros where one refuses.
 use borrow.Author.Needs.{needs}
-use Rattle.construction.proofs.Promises.{settled-filled, settled-refused}
+use Rattle.promise.proofs.Promises.{settled-filled, settled-refused}
 use Rattle.construction.proofs.carry.carry_or_clear.Statement.{statement}
 use Rattle.construction.proofs.carry.carry_or_clear.Tie as tie
 

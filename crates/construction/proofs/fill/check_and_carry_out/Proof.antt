@@ -6,7 +6,7 @@ use Rattle.layout.specs.Bytes.{Zeros}
 use Rattle.layout.proofs.Bytes.{zeros-all}
 use Rattle.construction.proofs.Carrying.{long-kept}
 use Rattle.construction.proofs.Filling.{still-in-range, all-pass, passed-all, passed-refused}
-use Rattle.construction.proofs.Promises.{settled-zeros}
+use Rattle.promise.proofs.Promises.{settled-zeros}
 use Rattle.construction.proofs.fill.check_and_carry_out.Statement.{statement}
 use Rattle.construction.proofs.fill.check_and_carry_out.Tie as tie
 

@@ -2,7 +2,7 @@
 use borrow.Author.Needs.{needs}
 use mathlib.Core.Path.{sym, _∙_}
 use Rattle.construction.proofs.Filling.{unreadable, reads, out-of-range, not-unread, readable, in-range-outcome}
-use Rattle.construction.proofs.Promises.{settled-zeros}
+use Rattle.promise.proofs.Promises.{settled-zeros}
 use Rattle.construction.proofs.fill.fill.Statement.{statement}
 use Rattle.construction.proofs.fill.fill.Tie as tie
 

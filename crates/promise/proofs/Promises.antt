@@ -30,7 +30,7 @@ use Rattle.causes.specs.Causes.{Cause}
 use Rattle.causes.proofs.Refused.{refused-cause}
 use Rattle.layout.specs.Bytes.{runsOf, zeros, padded, Holds, Zeros, lengthsOf, LongEnough}
 use Rattle.layout.specs.Step.{Left}
-use Rattle.construction.specs.Promise.{suffice, planned, answerTo, plannedNumbers, tableBytes, levelBytes, Settled, EvenBytes, Delivered, Promise}
+use Rattle.promise.specs.Promise.{suffice, planned, answerTo, plannedNumbers, tableBytes, levelBytes, Settled, EvenBytes, Delivered, Promise}
 use Rattle.layout.proofs.Bytes.{runs-length, runs-cell, zeros-all}
 use Rattle.layout.proofs.Sheets.{padded-length, padded-at, cells-few}
 
