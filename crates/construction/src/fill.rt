@@ -8,9 +8,9 @@ use crate::carry::carry_or_clear;
 use entry_range::Entries;
 use entry_range::first_out_of_range;
 use order::Reading;
-use order::read;
 use passing::Passing;
 use passing::first_failing;
+use reading::read;
 use sheets::answer::Answer;
 use sheets::answer::Refusal;
 

@@ -9,8 +9,8 @@ use order::Cursor;
 use order::Located;
 use order::Number;
 use order::Spot;
-use order::ingredients::ingredient;
 use places::ingredients_start;
+use reading::ingredients::ingredient;
 
 // Whether every entry is below its levels, p or s (question 3), and if not, where the first stands that is not.
 pub enum Entries {

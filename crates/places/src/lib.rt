@@ -9,13 +9,13 @@ use order::Reading;
 use order::Spot;
 use order::Stage;
 use order::Walk;
-use order::ingredients::counted_ingredients;
-use order::ingredients::ingredient;
-use order::ingredients::ingredients;
-use order::numbers::number;
-use order::read;
-use order::steps::step;
-use order::steps::steps;
+use reading::ingredients::counted_ingredients;
+use reading::ingredients::ingredient;
+use reading::ingredients::ingredients;
+use reading::numbers::number;
+use reading::read;
+use reading::steps::step;
+use reading::steps::steps;
 
 // A step of the list: its kind, and the place where its operands start.
 pub enum Placed {

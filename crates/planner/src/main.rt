@@ -1,5 +1,5 @@
 // The planner: reads an order as decimal numbers from standard input, plans it and prints the run table or the refusal (document 01, "Printed
-// runs"). What is read and what is put into a line is proved in `text`, `construction` and `report`; here it is only read and written.
+// runs"). What is read and what is put into a line is proved in `words`, `construction` and `report`; here it is only read and written.
 ghost use Prim.Native.Nat.{_≤_};
 ghost use lib.ListN.{length};
 ghost use Rattle.words.specs.Scanner.{Ended};
