@@ -10,10 +10,10 @@ use Rattle.order.specs.Reader.{Parsed, value, refused as unread}
 use Rattle.order.specs.Grammar.{readOrder, Reads}
 use Rattle.order.specs.Answers.{readingOf}
 use Rattle.order.specs.declared.Reading.the-variants.{Reads as ReadsWhole, Refused as RefusedAt}
+use Rattle.order.specs.Range.{rangeOf}
+use Rattle.order.specs.declared.Entries.the-variants.{InRange, OutOfRange, Unread}
 use Rattle.order.proofs.OrderLaw.{reads-iff}
-use Rattle.entry_range.specs.Range.{rangeOf}
-use Rattle.entry_range.specs.declared.Entries.the-variants.{InRange, OutOfRange, Unread}
-use Rattle.entry_range.proofs.InRange.{range-iff}
+use Rattle.order.proofs.InRange.{range-iff}
 use Rattle.sheets.specs.Steps.{Outcome, refused, allSteps}
 use Rattle.sheets.specs.Outcome.{rangeRefusal, ingredientsRefusal, unless, readOutcome, outcome}
 use Rattle.sheets.specs.declared.answer.Refusal.{Refusal}

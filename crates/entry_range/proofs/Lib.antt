@@ -1,4 +1,3 @@
-pub mod Failing
 pub mod Rows
 pub mod Ranges
-pub mod InRange
+pub mod Scans

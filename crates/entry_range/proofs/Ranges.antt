@@ -9,11 +9,11 @@ use Rattle.order.specs.Order.{Ingredient, table, matrix, generator, total, Ingr
 use Rattle.order.specs.Reader.{value, refused}
 use Rattle.order.specs.Grammar.{readIngredient}
 use Rattle.order.specs.Answers.{located}
+use Rattle.order.specs.Range.{ingredientRange}
+use Rattle.order.specs.declared.Entries.the-variants.{InRange, OutOfRange, Unread}
 use Rattle.order.proofs.Segment.{Segment, part-left, part-right, segment-fits, segment-numbers}
 use Rattle.order.proofs.Powers.{total-small}
-use Rattle.entry_range.specs.Range.{ingredientRange}
 use Rattle.entry_range.specs.Search.{Inside, locatedRange, scanned}
-use Rattle.entry_range.specs.declared.Entries.the-variants.{InRange, OutOfRange, Unread}
 use Rattle.entry_range.proofs.Rows.{high-same, high-one}
 
 -- An ingredient that stands at a place: its limits and its entries, by the places that the code finds.

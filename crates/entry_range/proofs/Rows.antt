@@ -8,12 +8,12 @@ use native.Mathlib.Omega.{arith}
 use lib.Dec.{ltb}
 use lib.ListN.{length, getD, take, drop, replicate, length-drop, length-replicate, getD-replicate}
 use lib.Seq.{length-take-le}
+use Rattle.order.specs.Range.{firstFailing, earlier, isInRange}
+use Rattle.order.specs.declared.Entries.{Entries}
+use Rattle.order.specs.declared.Entries.the-variants.{InRange, OutOfRange, Unread}
 use Rattle.order.proofs.Segment.{Segment, segment-at}
-use Rattle.entry_range.specs.Range.{firstFailing, earlier}
-use Rattle.entry_range.specs.Search.{highInRow, highInRows, isInRange}
-use Rattle.entry_range.specs.declared.Entries.{Entries}
-use Rattle.entry_range.specs.declared.Entries.the-variants.{InRange, OutOfRange, Unread}
-use Rattle.entry_range.proofs.Failing.{failing-same, failing-parts, failing-from}
+use Rattle.order.proofs.Failing.{failing-same, failing-parts, failing-from}
+use Rattle.entry_range.specs.Search.{highInRow, highInRows}
 
 -- Number q of u is below its bound.
 abbrev under : List ℕ → (ℕ → ℕ) → ℕ → Bool

@@ -1,5 +1,5 @@
 -- What the parts of the code that answers question 3 find in the list itself.
-use mathlib.Core.Bool.{Bool, true, false}
+use mathlib.Core.Bool.{Bool}
 use mathlib.Core.List.{List}
 use Prim.Native.Nat.{ℕ, zero, suc, _+_, _*_, _≤_, _<_}
 use lib.Dec.{ltb}
@@ -9,9 +9,9 @@ use Rattle.order.specs.Reader.{Parsed, value, refused}
 use Rattle.order.specs.Grammar.{readIngredient}
 use Rattle.order.specs.declared.Located.{Located}
 use Rattle.order.specs.declared.Located.the-variants.{Table, Matrix, Generator, Missing}
-use Rattle.entry_range.specs.Range.{firstFailing, ingredientRange, earlier}
-use Rattle.entry_range.specs.declared.Entries.{Entries}
-use Rattle.entry_range.specs.declared.Entries.the-variants.{InRange, OutOfRange, Unread}
+use Rattle.order.specs.Range.{firstFailing, ingredientRange, earlier}
+use Rattle.order.specs.declared.Entries.{Entries}
+use Rattle.order.specs.declared.Entries.the-variants.{InRange, Unread}
 
 -- Number c of the row from place start on is below limit c.
 abbrev pub isBelow : List ℕ → ℕ → List ℕ → ℕ → Bool
@@ -26,12 +26,6 @@ abbrev pub highInRows : List ℕ → ℕ → ℕ → List ℕ → Entries
 highInRows list start zero limits = InRange
 highInRows list start (suc rows) limits =
     earlier (highInRow list start limits) (highInRows list (start + length limits) rows limits)
-
--- Whether no entry was found out of range.
-abbrev pub isInRange : Entries → Bool
-isInRange InRange = true
-isInRange (OutOfRange place) = false
-isInRange Unread = false
 
 -- The limits and the entries of an ingredient stand within the list. One limit for all entries is a 16-bit number, and a row is at most as long as
 -- that of a generator with 128 factors of width 6.

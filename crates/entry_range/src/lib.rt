@@ -3,22 +3,15 @@ ghost use mathlib.Core.Path.{_≡_};
 ghost use Prim.Native.Nat.{_+_, _*_, _≤_, _<_};
 ghost use lib.ListN.{length, replicate};
 ghost use Rattle.order.specs.Grammar.{readOrder};
-ghost use Rattle.entry_range.specs.Search.{isInRange, highInRow, highInRows, Inside, locatedRange, scanned};
-ghost use Rattle.entry_range.specs.Range.{rangeOf};
+ghost use Rattle.order.specs.Range.{isInRange, rangeOf};
+ghost use Rattle.entry_range.specs.Search.{highInRow, highInRows, Inside, locatedRange, scanned};
 use order::Cursor;
+use order::Entries;
 use order::Located;
 use order::Number;
 use order::Spot;
 use places::ingredients_start;
 use reading::ingredients::ingredient;
-
-// Whether every entry is below its levels, p or s (question 3), and if not, where the first stands that is not.
-pub enum Entries {
-    InRange,
-    OutOfRange { place: usize },
-    // The list does not read, so the question is not asked.
-    Unread,
-}
 
 // Question 3: is every entry below its levels, p or s?
 pub fn first_out_of_range(list: &[u16]) -> Entries

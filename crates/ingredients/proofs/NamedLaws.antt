@@ -21,9 +21,9 @@ use Rattle.order.specs.Order.{Ingredient, Order, Between}
 use Rattle.order.specs.Grammar.{readOrder, Reads}
 use Rattle.order.specs.declared.Located.{Located}
 use Rattle.order.specs.declared.Located.the-variants.{Table as TableAt, Matrix as MatrixAt, Generator as GeneratorAt, Missing as NothingAt}
+use Rattle.order.specs.Range.{EntriesInRange}
 use Rattle.places.specs.Places.{ingredientAt, ingredientIn}
 use Rattle.places.proofs.Stands.{ingredient-described}
-use Rattle.entry_range.specs.Range.{EntriesInRange}
 use Rattle.sheets.specs.Sheet.{SmallEnough}
 use Rattle.sheets.specs.Ingredients.{asTable, asMatrix, asGenerator, listed, tableNamed, matrixNamed, generatorNamed}
 use Rattle.ingredients.specs.Named.{ownTable, namedTable, tableIn, Legible, someTable, someMatrix, someGenerator}

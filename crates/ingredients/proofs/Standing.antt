@@ -8,9 +8,9 @@ use native.Mathlib.Nat.{mod-lt}
 use native.Mathlib.Omega.{arith}
 use lib.Arith.{digits-lt}
 use lib.ListN.{length, take, drop, getElem?, length-append}
+use Rattle.order.specs.Range.{EntriesInRange}
 use Rattle.places.specs.Places.{ingredientAt, ingredientIn}
 use Rattle.places.proofs.Stands.{ingredient-stands, ingredient-described, widths-stand}
-use Rattle.entry_range.specs.Range.{EntriesInRange}
 use Rattle.buffers.specs.Put.{Bytes}
 use Rattle.counting.specs.Matrix.{matrixOf, MatrixInRange}
 use Rattle.counting.specs.Generator.{width, generatorOf, ElementsInRange}

@@ -6,9 +6,9 @@ use Rattle.counting.specs.Table.{Table, columns}
 use Rattle.order.specs.Order.{Order}
 use Rattle.order.specs.Reader.{Parsed, value, refused as unread}
 use Rattle.order.specs.Grammar.{readOrder, Reads}
+use Rattle.order.specs.Range.{EntriesInRange}
 use Rattle.places.specs.Places.{stepAt, operandsOf}
 use Rattle.places.specs.declared.Placed.the-variants.{Step as StepAt}
-use Rattle.entry_range.specs.Range.{EntriesInRange}
 use Rattle.sheets.specs.Sheet.{Sound, SmallEnough}
 use Rattle.sheets.specs.Steps.{Outcome, filled, refused, firstStep, laterStep}
 use Rattle.sheets.specs.declared.answer.Refusal.the-variants.{Unreadable}

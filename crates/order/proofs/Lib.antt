@@ -10,3 +10,5 @@ pub mod Powers
 pub mod Bodies
 pub mod Stages
 pub mod Whole
+pub mod Failing
+pub mod InRange

@@ -1,5 +1,5 @@
-// What the reading of an order answers (document 01, "The order"; question 2). The order itself, the list that writes it and the reader are
-// definitions in specs/; the crate `reading` reads.
+// What the questions on the list of an order answer (document 01, "The order"; questions 2 and 3). The order itself, the list that writes it and the reader are
+// definitions in specs/; the crates `reading`, `places` and `entry_range` have the code.
 
 // A place in the list.
 pub struct Cursor {
@@ -67,4 +67,12 @@ pub enum Stage {
 pub enum Reading {
     Reads,
     Refused { place: usize },
+}
+
+// Whether every entry is below its levels, p or s (question 3), and if not, where the first stands that is not.
+pub enum Entries {
+    InRange,
+    OutOfRange { place: usize },
+    // The list does not read, so the question is not asked.
+    Unread,
 }

@@ -17,12 +17,12 @@ use Rattle.order.specs.Order.{Ingredient, Order}
 use Rattle.order.specs.Reader.{Parsed, value, refused as unread}
 use Rattle.order.specs.Grammar.{readOrder, Reads}
 use Rattle.order.specs.declared.Located.the-variants.{Table as TableAt, Matrix as MatrixAt, Generator as GeneratorAt, Missing as NothingAt}
+use Rattle.order.specs.Range.{EntriesInRange, rangeOf}
+use Rattle.order.specs.declared.Entries.the-variants.{InRange}
 use Rattle.order.proofs.OrderLaw.{read-to-end}
+use Rattle.order.proofs.InRange.{range-iff}
 use Rattle.places.specs.Places.{ingredientAt, ingredientCount}
 use Rattle.places.proofs.Stands.{ingredient-described}
-use Rattle.entry_range.specs.Range.{EntriesInRange, rangeOf}
-use Rattle.entry_range.specs.declared.Entries.the-variants.{InRange}
-use Rattle.entry_range.proofs.InRange.{range-iff}
 use Rattle.sheets.specs.Outcome.{tableRefusal, matrixRefusal, generatorRefusal, ingredientRefusal, ingredientsRefusal}
 use Rattle.sheets.specs.declared.answer.Refusal.{Refusal}
 use Rattle.ingredients.specs.Named.{tableIn, matrixIn, generatorIn}

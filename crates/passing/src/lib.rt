@@ -3,8 +3,8 @@
 ghost use mathlib.Core.Path.{_≡_};
 ghost use Prim.Native.Nat.{_≤_};
 ghost use lib.ListN.{length, take, drop, replicate};
-ghost use Rattle.entry_range.specs.Range.{rangeOf};
-ghost use Rattle.entry_range.specs.declared.Entries.the-variants.{InRange};
+ghost use Rattle.order.specs.Range.{rangeOf};
+ghost use Rattle.order.specs.declared.Entries.the-variants.{InRange};
 ghost use Rattle.buffers.specs.Put.{Put};
 ghost use Rattle.counting.specs.Verdict.{tableVerdict, matrixVerdict};
 ghost use Rattle.counting.specs.GeneratorVerdict.{generatorVerdict};

@@ -11,7 +11,7 @@ use Rattle.house.specs.House.{houseTable, houseOf, house101}
 use Rattle.order.specs.Reader.{allowed}
 use Rattle.order.specs.Reader as reader
 use Rattle.order.specs.Grammar.{readIngredient, readNaming, readSum, readMerge, readSplit, readStep, readParts, readOrder}
-use Rattle.entry_range.specs.Range.{ingredientRange, rangeOf}
+use Rattle.order.specs.Range.{ingredientRange, rangeOf}
 use Rattle.sheets.specs.Sheet.{fromSources, takeStep, smallEnough}
 use Rattle.sheets.specs.Merge.{mergePlace, mergeSources, mergeLevels, mergedLevel, mergeValue, mergeStep, mergeFits, memberSum, memberFaultAt, memberFault}
 use Rattle.sheets.specs.Ingredients.{asTable, listed, tableNamed}

@@ -10,10 +10,10 @@ use Rattle.counting.specs.Table.{Table}
 use Rattle.order.specs.Order.{Order, All}
 use Rattle.order.specs.Reader.{Parsed, value, refused as unread}
 use Rattle.order.specs.Grammar.{readOrder, Reads}
+use Rattle.order.specs.Range.{rangeOf}
+use Rattle.order.specs.declared.Entries.the-variants.{Unread}
 use Rattle.order.proofs.OrderLaw.{reads-iff}
-use Rattle.entry_range.specs.Range.{rangeOf}
-use Rattle.entry_range.specs.declared.Entries.the-variants.{Unread}
-use Rattle.entry_range.proofs.InRange.{range-iff}
+use Rattle.order.proofs.InRange.{range-iff}
 use Rattle.sheets.specs.Sheet.{Sound, SmallEnough}
 use Rattle.sheets.specs.Steps.{Outcome, filled, allSteps}
 use Rattle.sheets.specs.Outcome.{rangeRefusal, ingredientsRefusal, unless, readOutcome, outcome}

@@ -27,7 +27,7 @@ use Rattle.counting.specs.Generator.{Generator, factors, generatorOf, width, El
 use Rattle.house.specs.House.{house101, house102, house103, house104, houseOf, houseTable}
 use Rattle.house.proofs.Passing.{house-passes, house-even, house-number}
 use Rattle.order.specs.Order.{Ingredient, table, matrix, generator, Order, total, All, Between, GeneratorField, FactorWidth, IngredientLimits, WithinLimits, entriesOf}
-use Rattle.entry_range.specs.Range.{bound, EntriesInRange}
+use Rattle.order.specs.Range.{bound, EntriesInRange}
 use Rattle.sheets.specs.Lists.{allOf}
 use Rattle.sheets.specs.Sheet.{LevelsAtMost, Sound}
 use Rattle.sheets.specs.Sum.{PassingMatrix}

@@ -28,9 +28,9 @@ use Rattle.order.specs.Order.{Ingredient, table, matrix, generator, Order, All,
 use Rattle.order.specs.Reader.{Parsed, value, refused as unread, when, continue}
 use Rattle.order.specs.Grammar.{atEnd, readParts, readOrder}
 use Rattle.order.specs.Answers.{entriesFrom}
-use Rattle.entry_range.specs.Range.{bound, firstFailing, ingredientRange, earlier, ingredientsRange}
-use Rattle.entry_range.specs.declared.Entries.{Entries}
-use Rattle.entry_range.specs.declared.Entries.the-variants.{InRange, OutOfRange, Unread}
+use Rattle.order.specs.Range.{bound, firstFailing, ingredientRange, earlier, ingredientsRange}
+use Rattle.order.specs.declared.Entries.{Entries}
+use Rattle.order.specs.declared.Entries.the-variants.{InRange, OutOfRange, Unread}
 use Rattle.sheets.specs.Outcome.{rangeRefusal, tableRefusal, matrixRefusal, generatorRefusal, ingredientRefusal, ingredientsRefusal}
 use Rattle.sheets.specs.Fillable.{MeetsDefinition}
 

@@ -16,7 +16,7 @@ use Rattle.galois.proofs.Tests.{otherwise, among}
 use Rattle.counting.specs.Table.{Table, columns, InRange}
 use Rattle.counting.specs.Matrix.{Matrix}
 use Rattle.order.specs.Order.{Step, TAKE, FIELD, SUM, MERGE, SPLIT, Order, All, MergePrime, StepLimits, WithinLimits}
-use Rattle.entry_range.specs.Range.{EntriesInRange}
+use Rattle.order.specs.Range.{EntriesInRange}
 use Rattle.sheets.specs.Sheet.{LevelsAtMost, Sound, SmallEnough, takeStep}
 use Rattle.sheets.specs.Sum.{levelSum, rowsOf, adjoinedTable}
 use Rattle.sheets.specs.Merge.{mergePrimes}

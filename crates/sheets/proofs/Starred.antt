@@ -18,7 +18,7 @@ use Rattle.counting.specs.GeneratorVerdict.{combinesToZero, dependence, generat
 use Rattle.house.specs.House.{houseTable, houseOf, house101}
 use Rattle.order.specs.Reader.{allowed, numbers}
 use Rattle.order.specs.Grammar.{tableBody, matrixBody, generatorBody, readIngredient, readNaming, readSum, readMerge, readSplit, readStep, readParts, readOrder}
-use Rattle.entry_range.specs.Range.{ingredientRange, rangeOf}
+use Rattle.order.specs.Range.{ingredientRange, rangeOf}
 use Rattle.sheets.specs.Sheet.{fromSources, takeStep, smallEnough}
 use Rattle.sheets.specs.Field.{columnElements, values, fieldTable}
 use Rattle.sheets.specs.Sum.{levelSum, rowsOf, serving, adjoinedTable, summedWith, sumPlace, sumSources, sumLevels, sumEntry, sumValue, sumStep, sumFits}

@@ -8,7 +8,7 @@ use Rattle.counting.specs.Table.{Table, tableOf, Even}
 use Rattle.counting.specs.Matrix.{matrixOf, DifferenceMatrix}
 use Rattle.counting.specs.Generator.{generatorOf, Independent}
 use Rattle.order.specs.Order.{Ingredient, table, matrix, generator, Step, Order, All, WithinLimits, written}
-use Rattle.entry_range.specs.Range.{EntriesInRange}
+use Rattle.order.specs.Range.{EntriesInRange}
 use Rattle.sheets.specs.Sheet.{SmallEnough}
 use Rattle.sheets.specs.Sum.{rowsOf, adjoinedTable, SumFits}
 use Rattle.sheets.specs.Merge.{MergeFits, MemberSums}

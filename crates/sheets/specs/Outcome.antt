@@ -18,9 +18,9 @@ use Rattle.counting.specs.declared.verdict.GeneratorFinding.the-variants as Gen
 use Rattle.order.specs.Order.{Ingredient, table, matrix, generator, Order}
 use Rattle.order.specs.Reader.{Parsed, value, refused as unread}
 use Rattle.order.specs.Grammar.{readOrder}
-use Rattle.entry_range.specs.Range.{rangeOf}
-use Rattle.entry_range.specs.declared.Entries.{Entries}
-use Rattle.entry_range.specs.declared.Entries.the-variants.{InRange, OutOfRange, Unread}
+use Rattle.order.specs.Range.{rangeOf}
+use Rattle.order.specs.declared.Entries.{Entries}
+use Rattle.order.specs.declared.Entries.the-variants.{InRange, OutOfRange, Unread}
 use Rattle.sheets.specs.Steps.{Outcome, refused, allSteps}
 use Rattle.sheets.specs.declared.answer.Refusal.{Refusal}
 use Rattle.sheets.specs.declared.answer.Refusal.the-variants.{Unreadable, EntryOutOfRange, UnevenLevel, UnevenPair, UnevenDifference, Dependent}

@@ -6,9 +6,9 @@ use denote.Ref.{now}
 use borrow.Author.Needs.{needs}
 use borrow.Author.Tests.{lt-ltb, le-ltb}
 use lib.ListN.{length}
-use Rattle.entry_range.specs.Range.{firstFailing}
+use Rattle.order.specs.Range.{firstFailing}
+use Rattle.order.proofs.Failing.{failing-on, failing-stop, failing-done}
 use Rattle.entry_range.specs.Search.{isBelow, highInRow}
-use Rattle.entry_range.proofs.Failing.{failing-on, failing-stop, failing-done}
 use Rattle.entry_range.proofs.first_high_in_row.Statement.{statement}
 use Rattle.entry_range.proofs.first_high_in_row.Tie as tie
 

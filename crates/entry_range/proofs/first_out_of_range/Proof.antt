@@ -2,9 +2,9 @@
 use mathlib.Core.Path.{sym, _∙_}
 use denote.Ref.{now}
 use borrow.Author.Needs.{needs}
-use Rattle.entry_range.proofs.InRange.{scanned-order, range-unread}
 use Rattle.entry_range.proofs.first_out_of_range.Statement.{statement}
 use Rattle.entry_range.proofs.first_out_of_range.Tie as tie
+use Rattle.entry_range.proofs.Scans.{scanned-order, range-unread}
 
 ingredients-start-requires : tie.Need-ingredients-start-requires
 ingredients-start-requires c κs = search needs

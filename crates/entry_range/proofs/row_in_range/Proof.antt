@@ -6,9 +6,9 @@ use native.Mathlib.Omega.{arith}
 use denote.Ref.{now}
 use borrow.Author.Needs.{needs}
 use lib.ListN.{length}
-use Rattle.entry_range.specs.Range.{firstFailing}
-use Rattle.entry_range.specs.Search.{isBelow, isInRange, highInRow}
-use Rattle.entry_range.proofs.Failing.{failing-all, failing-done}
+use Rattle.order.specs.Range.{firstFailing, isInRange}
+use Rattle.order.proofs.Failing.{failing-all, failing-done}
+use Rattle.entry_range.specs.Search.{isBelow, highInRow}
 use Rattle.entry_range.proofs.row_in_range.Statement.{statement}
 use Rattle.entry_range.proofs.row_in_range.Tie as tie
 

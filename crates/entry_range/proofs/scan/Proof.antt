@@ -10,11 +10,11 @@ use Rattle.order.specs.Reader.{value}
 use Rattle.order.specs.Grammar.{readIngredient}
 use Rattle.order.specs.Answers.{located}
 use Rattle.order.specs.declared.Located.{Located}
+use Rattle.order.specs.Range.{ingredientRange}
+use Rattle.order.specs.declared.Entries.{Entries}
 use Rattle.order.proofs.Answers.{spot-value, spot-refused}
 use Rattle.order.proofs.IngredientLaw.{ingredient-law}
-use Rattle.entry_range.specs.Range.{ingredientRange}
 use Rattle.entry_range.specs.Search.{locatedRange, scanned}
-use Rattle.entry_range.specs.declared.Entries.{Entries}
 use Rattle.entry_range.proofs.Ranges.{located-inside, located-same, scanned-on, scanned-high, scanned-unread, scanned-refused, scanned-done}
 use Rattle.entry_range.proofs.scan.Statement.{statement}
 use Rattle.entry_range.proofs.scan.Tie as tie

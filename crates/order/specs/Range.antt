@@ -1,14 +1,14 @@
 -- Question 3: the first entry, over all ingredients in the order of the list, that is not below its levels, p or s.
-use mathlib.Core.Bool.{Bool}
+use mathlib.Core.Bool.{Bool, true, false}
 use mathlib.Core.List.{List, [], _∷_}
 use Prim.Native.Nat.{ℕ, zero, suc, _+_, _%_, _<_}
 use lib.Dec.{ltb}
 use lib.ListN.{length, getD}
 use Rattle.order.specs.Order.{Ingredient, table, matrix, generator, entriesOf, Order, All, writtenIngredient}
 use Rattle.order.specs.Reader.{Parsed, value, refused, when}
 use Rattle.order.specs.Answers.{entriesFrom}
-use Rattle.entry_range.specs.declared.Entries.{Entries}
-use Rattle.entry_range.specs.declared.Entries.the-variants.{InRange, OutOfRange, Unread}
+use Rattle.order.specs.declared.Entries.{Entries}
+use Rattle.order.specs.declared.Entries.the-variants.{InRange, OutOfRange, Unread}
 
 -- What entry number q, from 0, stays below. Entries stand run by run, so entry q of a table is in column q % columns.
 abbrev pub bound : Ingredient → ℕ → ℕ
@@ -35,6 +35,12 @@ abbrev pub earlier : Entries → Entries → Entries
 earlier InRange next = next
 earlier (OutOfRange place) next = OutOfRange place
 earlier Unread next = Unread
+
+-- Whether no entry was found out of range.
+abbrev pub isInRange : Entries → Bool
+isInRange InRange = true
+isInRange (OutOfRange place) = false
+isInRange Unread = false
 
 -- Over ingredients one after the other, the first of which stands at a place.
 abbrev pub ingredientsRange : ℕ → List Ingredient → Entries

@@ -5,11 +5,10 @@ use mathlib.Core.Bool.{Bool, true, false, _&&_}
 use Prim.Native.Nat.{ℕ, zero, suc, _+_, _-_, _≤_, _<_}
 use native.Mathlib.Nat.{add-zero, zero-add, suc-add, add-assoc}
 use native.Mathlib.Omega.{arith}
 use Rattle.order.specs.Reader.{when}
-use Rattle.entry_range.specs.Range.{firstFailing, earlier}
-use Rattle.entry_range.specs.Search.{isInRange}
-use Rattle.entry_range.specs.declared.Entries.{Entries}
-use Rattle.entry_range.specs.declared.Entries.the-variants.{InRange, OutOfRange}
+use Rattle.order.specs.Range.{firstFailing, earlier, isInRange}
+use Rattle.order.specs.declared.Entries.{Entries}
+use Rattle.order.specs.declared.Entries.the-variants.{InRange, OutOfRange}
 
 module _ (ok : ℕ → Bool) (start : ℕ) where
   pub failing-on : (left q : ℕ) → 0 < left → ok q ≡ true → firstFailing ok start left q ≡ firstFailing ok start (left - 1) (q + 1)
