@@ -31,11 +31,11 @@ use Rattle.counting.proofs.GeneratorVerdicts.{generator-fails}
 use Rattle.order.specs.Order.{Ingredient, table, matrix, generator, Step, Order, All, IngredientLimits}
 use Rattle.order.specs.Reader.{Parsed, value, refused as unread}
 use Rattle.order.specs.Grammar.{readOrder, Reads}
-use Rattle.entry_range.specs.Range.{rangeOf}
-use Rattle.entry_range.specs.declared.Entries.{Entries}
-use Rattle.entry_range.specs.declared.Entries.the-variants.{InRange as Within, OutOfRange, Unread}
+use Rattle.order.specs.Range.{rangeOf}
+use Rattle.order.specs.declared.Entries.{Entries}
+use Rattle.order.specs.declared.Entries.the-variants.{InRange as Within, OutOfRange, Unread}
 use Rattle.order.proofs.OrderLaw.{reads-iff}
-use Rattle.entry_range.proofs.InRange.{range-iff}
+use Rattle.order.proofs.InRange.{range-iff}
 use Rattle.order_causes.proofs.Unreadable.{unreadable}
 use Rattle.order_causes.proofs.OutOfRange.{out-of-range}
 use Rattle.sheets.specs.Buffers.{Lengths, Suffices}

@@ -15,7 +15,7 @@ use Rattle.counting.specs.declared.verdict.DifferenceFault.{DifferenceFault}
 use Rattle.counting.specs.declared.verdict.TableFault.{TableFault}
 use Rattle.counting.specs.declared.verdict.TableFault.the-variants.{Column, Pair}
 use Rattle.order.specs.Order.{Ingredient, table, matrix, generator, Step, Order, All, WithinLimits, written}
-use Rattle.entry_range.specs.Range.{EntriesInRange}
+use Rattle.order.specs.Range.{EntriesInRange}
 use Rattle.order_causes.specs.Causes.{NotAnOrder, FirstOutOfRange}
 use Rattle.sheets.specs.Buffers.{Lengths, Suffices}
 use Rattle.sheets.specs.Sheet.{SmallEnough}

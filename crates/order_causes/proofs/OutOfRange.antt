@@ -16,13 +16,13 @@ use Rattle.order.specs.Order.{Ingredient, entriesOf, Order, All, writtenIngredi
 use Rattle.order.specs.Reader.{when}
 use Rattle.order.specs.Grammar.{readOrder, Reads}
 use Rattle.order.specs.Answers.{entriesFrom}
-use Rattle.entry_range.specs.Range.{bound, firstFailing, ingredientRange, earlier, ingredientsRange, rangeOf}
-use Rattle.entry_range.specs.declared.Entries.{Entries}
-use Rattle.entry_range.specs.declared.Entries.the-variants.{InRange, OutOfRange, Unread}
+use Rattle.order.specs.Range.{bound, firstFailing, ingredientRange, earlier, ingredientsRange, rangeOf}
+use Rattle.order.specs.declared.Entries.{Entries}
+use Rattle.order.specs.declared.Entries.the-variants.{InRange, OutOfRange, Unread}
 use Rattle.order.proofs.Segment.{Segment, segment-whole, part-left, part-right}
 use Rattle.order.proofs.OrderLaw.{reads-iff}
 use Rattle.places.proofs.Stands.{entries-stand}
-use Rattle.entry_range.proofs.Failing.{failing-none, failing-parts, failing-stop}
+use Rattle.order.proofs.Failing.{failing-none, failing-parts, failing-stop}
 use Rattle.order_causes.specs.Causes.{EntryInRange, IngredientInRange, firstEntry, FirstOutOfRange}
 
 -- The first of left numbers from q on that fails the test.

@@ -5,7 +5,7 @@ use Prim.Native.Nat.{ℕ, _+_, _≤_, _<_}
 use lib.ListN.{length, getD, take}
 use Rattle.order.specs.Order.{Ingredient, entriesOf, Order, All, WithinLimits, writtenIngredient, writtenAll, written}
 use Rattle.order.specs.Answers.{entriesFrom}
-use Rattle.entry_range.specs.Range.{bound}
+use Rattle.order.specs.Range.{bound}
 
 -- The numbers begin the writing of some order within its limits, however long that writing is.
 pub record Begins (numbers : List ℕ) : Type 0 where

