@@ -2,15 +2,15 @@
 -- Assumes nothing.
 use mathlib.Core.Path.{_≡_, refl, sym, _∙_, ap, ap₂, subst}
 use mathlib.Core.Logic.{_≢_, _⊎_, inl, inr, ⊎-elim, by-cases}
-use mathlib.Core.Bool.{Bool, true, false}
+use mathlib.Core.Bool.{Bool, true, false, true≢false}
 use mathlib.Core.List.{List, [], _∷_}
 use mathlib.Core.Option.{Option, none, some}
 use Prim.Native.Nat.{ℕ, zero, suc, _+_, _-_, _≤_, _<_}
 use native.Mathlib.Nat.{le-trans}
-use native.Mathlib.Decide.{decLt}
+use native.Mathlib.Decide.{ℕ-discrete, decLt}
 use native.Mathlib.Omega.{arith}
-use borrow.Author.Tests.{ne-eqb}
-use lib.Dec.{eqb, lit≤}
+use borrow.Author.Tests.{leb-false, lt-leb, eq-eqb, ne-eqb}
+use lib.Dec.{eqb, leb, lit≤}
 use lib.ListN.{length, drop, getElem?, drop-of-length-le}
 use Rattle.counting.specs.Table.{Table, columns}
 use Rattle.order.specs.Order.{Order, Step, TAKE, FIELD, SUM, MERGE, SPLIT, StepLimits}
@@ -35,7 +35,7 @@ use Rattle.sheets.proofs.Sheets.{first-filled, later-filled}
 use Rattle.sheets.proofs.StepAgreement.{AgreeOutcome, both-filled, both-refused, provided-agree, later-agree}
 use Rattle.layout.specs.Bytes.{Holds, Zeros, LongEnough, sheetIn}
 use Rattle.layout.specs.Step.{Readable, Stands, Ready, firstIn, laterIn, Left}
-use Rattle.construction.specs.Carry.{Passing, Underway, startIn, proceedIn, allIn}
+use Rattle.construction.specs.Carry.{Passing, Prepared, Underway, Later, Before, HoldsHand, kindAllowed, stepOn, stepsOn, inHand, numberedIn, proceedIn, allIn}
 use Rattle.layout.specs.declared.Size.{Size}
 use Rattle.promise.proofs.Promises.{refused-unfilled}
 use Rattle.layout.proofs.Operands.{in-order, first-in, later-in, stands-step}
@@ -50,8 +50,31 @@ kinds (SUM ds k) = (lit≤ tt, lit≤ tt)
 kinds (MERGE p cs) = (lit≤ tt, lit≤ tt)
 kinds (SPLIT c i) = (lit≤ tt, lit≤ tt)
 
-one-or-two : (n : ℕ) → 1 ≤ n → n ≤ 5 → n ≢ 3 → n ≢ 4 → n ≢ 5 → (n ≡ 1) ⊎ (n ≡ 2)
-one-or-two n low high three four five = by-cases (decLt n 2) (λ one. inl (omega arith)) (λ more. inr (omega (arith, three, four, five)))
+one-or-two : (n : ℕ) → 1 ≤ n → n ≤ 2 → (n ≡ 1) ⊎ (n ≡ 2)
+one-or-two n low high = by-cases (decLt n 2) (λ one. inl (omega arith)) (λ more. inr (omega arith))
+
+from-three : (n : ℕ) → 1 ≤ n → n ≢ 1 → n ≢ 2 → 3 ≤ n
+from-three n low one two = omega (arith, one, two)
+
+up-to-five : (n : ℕ) → 3 ≤ n → n ≤ 5 → n ≢ 3 → n ≢ 4 → n ≢ 5 → ⊥
+up-to-five n low high three four five = omega (arith, three, four, five)
+
+-- kinds 1 and 2 are allowed of the first step alone, and kinds from 3 on of the others
+module _ (n kind : ℕ) where
+  allowed-one : n ≡ 1 → kindAllowed n kind ≡ leb kind 2
+  unfolding kindAllowed
+  allowed-one one = rw (eq-eqb n 1 one)
+
+  allowed-other : n ≢ 1 → kindAllowed n kind ≡ leb 3 kind
+  unfolding kindAllowed
+  allowed-other other = rw (ne-eqb n 1 other)
+
+  pub allowed-first : kindAllowed n kind ≡ true → kind ≤ 2 → n ≡ 1
+  allowed-first allowed low =
+      by-cases (ℕ-discrete n 1) (λ one. one) (λ other. absurd (true≢false (sym allowed ∙ allowed-other other ∙ lt-leb 3 kind (omega arith))))
+
+  pub allowed-later : kindAllowed n kind ≡ true → 3 ≤ kind → n ≢ 1
+  allowed-later allowed high one = true≢false (sym allowed ∙ allowed-one one ∙ lt-leb kind 2 (omega arith))
 
 module _ {list : List ℕ} (read : Readable list) where
   -- what a look-up of step number k + 1 gives
@@ -61,38 +84,25 @@ module _ {list : List ℕ} (read : Readable list) where
   not-there : (k : ℕ) → stepAt (readOrder list) (suc k) ≡ Missing → getElem? (read .order .steps) k ≡ none
   not-there k found = sym (step-described list (read .order) (read .reads) k) ∙ ap (stepIn list) found
 
-  pub start-found : (kind at : ℕ) → stepAt (readOrder list) 1 ≡ StepAt kind at → startIn list ≡ firstIn list kind at
-  unfolding startIn provided
-  start-found kind at found =
-      in-order read _ ∙ ap (λ x. provided x (StepNotAllowed 1) (firstStep (read .order))) (looked-up 0 kind at found) ∙ sym (first-in read kind at)
-
-  pub start-missing : stepAt (readOrder list) 1 ≡ Missing → startIn list ≡ refused (StepNotAllowed 1)
-  unfolding startIn provided
-  start-missing found = in-order read _ ∙ ap (λ x. provided x (StepNotAllowed 1) (firstStep (read .order))) (not-there 0 found)
-
-  proceed-found-next : (k : ℕ) (S : Table) (kind at : ℕ) → stepAt (readOrder list) (suc k) ≡ StepAt kind at
-      → proceedIn list (suc k) S ≡ laterIn list (suc k) S kind at
-  unfolding proceedIn provided
-  proceed-found-next k S kind at found =
+  -- step number k + 1 by what the look-up gives
+  proceed-next : (k : ℕ) (hand : Option Table) {found : Option Step} → getElem? (read .order .steps) k ≡ found
+      → proceedIn list (suc k) hand ≡ provided found (StepNotAllowed (suc k)) (stepOn (read .order) (suc k) hand)
+  unfolding proceedIn
+  proceed-next k hand there =
       in-order read _
-      ∙ ap (λ j. provided (getElem? (read .order .steps) j) (StepNotAllowed (suc k)) (laterStep (read .order) (suc k) S)) (let same : suc k - 1 ≡ k = omega arith in same)
-      ∙ ap (λ x. provided x (StepNotAllowed (suc k)) (laterStep (read .order) (suc k) S)) (looked-up k kind at found)
-      ∙ sym (later-in read kind at (suc k) S)
+      ∙ ap (λ j. provided (getElem? (read .order .steps) j) (StepNotAllowed (suc k)) (stepOn (read .order) (suc k) hand)) (let same : suc k - 1 ≡ k = omega arith in same)
+      ∙ ap (λ x. provided x (StepNotAllowed (suc k)) (stepOn (read .order) (suc k) hand)) there
 
-  proceed-missing-next : (k : ℕ) (S : Table) → stepAt (readOrder list) (suc k) ≡ Missing → proceedIn list (suc k) S ≡ refused (StepNotAllowed (suc k))
-  unfolding proceedIn provided
-  proceed-missing-next k S found =
-      in-order read _
-      ∙ ap (λ j. provided (getElem? (read .order .steps) j) (StepNotAllowed (suc k)) (laterStep (read .order) (suc k) S)) (let same : suc k - 1 ≡ k = omega arith in same)
-      ∙ ap (λ x. provided x (StepNotAllowed (suc k)) (laterStep (read .order) (suc k) S)) (not-there k found)
+  pub proceed-found : (n : ℕ) → 1 ≤ n → (hand : Option Table) (kind at : ℕ) → stepAt (readOrder list) n ≡ StepAt kind at
+      → proceedIn list n hand ≡ numberedIn list n hand kind at
+  unfolding provided numberedIn
+  proceed-found zero h hand kind at found = absurd (omega arith)
+  proceed-found (suc k) h hand kind at found = proceed-next k hand (looked-up k kind at found) ∙ sym (in-order read _)
 
-  pub proceed-found : (n : ℕ) → 1 ≤ n → (S : Table) (kind at : ℕ) → stepAt (readOrder list) n ≡ StepAt kind at → proceedIn list n S ≡ laterIn list n S kind at
-  proceed-found zero h S kind at found = absurd (omega arith)
-  proceed-found (suc k) h S kind at found = proceed-found-next k S kind at found
-
-  pub proceed-missing : (n : ℕ) → 1 ≤ n → (S : Table) → stepAt (readOrder list) n ≡ Missing → proceedIn list n S ≡ refused (StepNotAllowed n)
-  proceed-missing zero h S found = absurd (omega arith)
-  proceed-missing (suc k) h S found = proceed-missing-next k S found
+  pub proceed-missing : (n : ℕ) → 1 ≤ n → (hand : Option Table) → stepAt (readOrder list) n ≡ Missing → proceedIn list n hand ≡ refused (StepNotAllowed n)
+  unfolding provided
+  proceed-missing zero h hand found = absurd (omega arith)
+  proceed-missing (suc k) h hand found = proceed-next k hand (not-there k found)
 
   -- ---- how many steps there are
 
@@ -112,7 +122,7 @@ module _ {list : List ℕ} (read : Readable list) where
   closed false false ds cs k p c i = refl
 
   -- a first step of kind 3 to 5
-  pub first-refused : (kind at : ℕ) → kind ≢ 1 → kind ≢ 2 → firstIn list kind at ≡ refused (StepNotAllowed 1)
+  first-refused : (kind at : ℕ) → kind ≢ 1 → kind ≢ 2 → firstIn list kind at ≡ refused (StepNotAllowed 1)
   unfolding firstStep provided
   first-refused kind at one two =
       first-in read kind at
@@ -125,36 +135,73 @@ module _ {list : List ℕ} (read : Readable list) where
       rw (← same) at (kinds (operandsOf list kind at))
 
   -- a later step of kind 1 or 2
-  pub later-refused : (n : ℕ) (S : Table) (kind at : ℕ) → Stands list kind at → kind ≢ 3 → kind ≢ 4 → kind ≢ 5 → laterIn list n S kind at ≡ refused (StepNotAllowed n)
+  later-refused : (n : ℕ) (S : Table) (kind at : ℕ) → Stands list kind at → kind ≤ 2 → laterIn list n S kind at ≡ refused (StepNotAllowed n)
   unfolding laterStep provided operation
-  later-refused n S kind at stands three four five =
+  later-refused n S kind at stands low =
+      later-in read kind at n S
+      ∙ ⊎-elim (λ (e : kind ≡ 1). rw e) (λ (e : kind ≡ 2). rw e) (one-or-two kind (stands-kind kind at stands .0) low)
+
+  pub no-other-kind : {kind at : ℕ} → Stands list kind at → kind ≢ 1 → kind ≢ 2 → kind ≢ 3 → kind ≢ 4 → kind ≢ 5 → ⊥
+  no-other-kind {kind} {at} stands one two three four five =
       let (low, high) = stands-kind kind at stands in
-      later-in read kind at n S ∙ ⊎-elim (λ (e : kind ≡ 1). rw e) (λ (e : kind ≡ 2). rw e) (one-or-two kind low high three four five)
+      up-to-five kind (from-three kind low one two) high three four five
+
+-- ---- step number n on the sheet in hand
+
+module _ (list : List ℕ) (n : ℕ) (size : Size) (table levels : List ℕ) (kind at : ℕ) where
+  pub numbered-first : n ≡ 1 → numberedIn list n (inHand n size table levels) kind at ≡ firstIn list kind at
+  unfolding numberedIn inHand firstIn stepOn
+  numbered-first one = rw one
+
+  pub numbered-later : n ≢ 1 → numberedIn list n (inHand n size table levels) kind at ≡ laterIn list n (sheetIn table levels size) kind at
+  unfolding numberedIn inHand laterIn stepOn
+  numbered-later other = rw (ne-eqb n 1 other)
+
+  pub numbered-refused : Readable list → Stands list kind at → kindAllowed n kind ≡ false
+      → numberedIn list n (inHand n size table levels) kind at ≡ refused (StepNotAllowed n)
+  numbered-refused read stands not-allowed =
+      by-cases (ℕ-discrete n 1)
+      (λ one.
+      let high = leb-false kind 2 (sym (allowed-one n kind one) ∙ not-allowed) in
+      numbered-first one ∙ first-refused read kind at (λ e. omega arith) (λ e. omega arith) ∙ ap (λ m. refused (StepNotAllowed m)) (sym one))
+      (λ other.
+      let low = leb-false 3 kind (sym (allowed-other n kind other) ∙ not-allowed) in
+      numbered-later other ∙ later-refused read n (sheetIn table levels size) kind at stands (omega arith))
 
 -- ---- the steps that are left
 
 -- the first of the steps from place k on, and the others
-left-next : (o : Order) (n : ℕ) (S : Table) (steps : List Step) (k : ℕ)
+later-next : (o : Order) (n : ℕ) (S : Table) (steps : List Step) (k : ℕ)
     → k < length steps
     → laterSteps o n S (drop k steps) ≡ proceed (provided (getElem? steps k) (StepNotAllowed n) (laterStep o n S)) (λ T. laterSteps o (n + 1) T (drop (k + 1) steps))
 unfolding laterSteps provided
-left-next o n S [] k h = absurd (omega arith)
-left-next o n S (s ∷ steps) zero h = refl
-left-next o n S (s ∷ steps) (suc k) h =
-    left-next o n S steps k (omega arith)
+later-next o n S [] k h = absurd (omega arith)
+later-next o n S (s ∷ steps) zero h = refl
+later-next o n S (s ∷ steps) (suc k) h =
+    later-next o n S steps k (omega arith)
     ∙ ap (λ j. proceed (provided (getElem? steps k) (StepNotAllowed n) (laterStep o n S)) (λ T. laterSteps o (n + 1) T (drop j (s ∷ steps))))
     (let same : suc (k + 1) ≡ suc k + 1 = omega arith in same)
+
+first-next : (o : Order) (steps : List Step)
+    → allSteps o steps ≡ proceed (provided (getElem? steps 0) (StepNotAllowed 1) (firstStep o)) (λ S. laterSteps o 2 S (drop 1 steps))
+unfolding allSteps provided proceed
+first-next o [] = refl
+first-next o (s ∷ steps) = refl
+
+-- the step of number n, and the others
+left-next : (o : Order) (n : ℕ) (size : Size) (hand : Option Table) (steps : List Step) → Before n size hand → n ≤ length steps
+    → stepsOn o n hand (drop (n - 1) steps)
+    ≡ proceed (provided (getElem? steps (n - 1)) (StepNotAllowed n) (stepOn o n hand)) (λ T. laterSteps o (n + 1) T (drop n steps))
+unfolding stepsOn stepOn Before
+left-next o n size none steps one more = rw one (first-next o steps)
+left-next o n size (some S) steps before more =
+    later-next o n S steps (n - 1) (omega (arith, before .later))
+    ∙ ap (λ k. proceed (provided (getElem? steps (n - 1)) (StepNotAllowed n) (laterStep o n S)) (λ T. laterSteps o (n + 1) T (drop k steps)))
+    (let same : n - 1 + 1 ≡ n = omega (arith, before .later) in same)
 
 left-none : (o : Order) (n : ℕ) (S : Table) (steps : List Step) (k : ℕ) → length steps ≤ k → laterSteps o n S (drop k steps) ≡ filled S
 unfolding laterSteps
 left-none o n S steps k h = ap (laterSteps o n S) (drop-of-length-le steps h)
-
--- the first step and the others
-all-start : (o : Order) (steps : List Step)
-    → allSteps o steps ≡ proceed (provided (getElem? steps 0) (StepNotAllowed 1) (firstStep o)) (λ S. laterSteps o 2 S (drop 1 steps))
-unfolding allSteps provided proceed
-all-start o [] = refl
-all-start o (s ∷ steps) = refl
 
 -- ---- on the way
 
@@ -179,32 +226,85 @@ small-agrees : {A B : Table} → Agree A B → SmallEnough A → SmallEnough B
 small-agrees alike small =
     record { runs-most = rw (← alike .same-runs) (small .runs-most); columns-most = rw (← agree-columns alike) (small .columns-most) }
 
-module _ {list : List ℕ} {number : ℕ} {size : Size} {table levels scratch : List ℕ} (way : Underway list number size table levels scratch) where
-  many : size .columns ≤ 128
-  many = rw (way .columns-are) (way .small .columns-most)
-
-  in-bytes : Agree (way .sheet) (sheetIn table levels size)
-  in-bytes =
-      holds-agrees (way .sheet) table levels size (way .holds) (way .runs-are) (way .columns-are) (le-trans many (way .long .levels-long))
-
-  -- what the next step takes
-  pub underway-ready : Ready list size table levels scratch
-  underway-ready =
-      record {
-        readable = way .passing .readable;
-        long = way .long;
-        columns-most = many;
-        sound = sound-agrees in-bytes (way .sound);
-        small = small-agrees in-bytes (way .small);
-        holds = agree-holds in-bytes (way .holds);
-        scratch-clear = way .clear;
-      }
-
--- ---- what was left by a step on the sheet in bytes, for the sheet of the definitions
+-- ---- the sheet in hand, of the definitions and in bytes
 
 outcome-refl : (x : Outcome) → AgreeOutcome x x
 outcome-refl (filled S) = both-filled (agree-refl S)
 outcome-refl (refused why) = both-refused why
+
+module _ (list : List ℕ) (number : ℕ) (size : Size) (table levels scratch : List ℕ) (read : Readable list) (long : LongEnough table levels scratch)
+    (clear : Zeros scratch) where
+  many : {S : Table} → Later number size S → size .columns ≤ 128
+  many before = rw (before .columns-are) (before .small .columns-most)
+
+  in-bytes : (S : Table) → Later number size S → Holds S table levels → Agree S (sheetIn table levels size)
+  in-bytes S before holds =
+      holds-agrees S table levels size holds (before .runs-are) (before .columns-are) (le-trans (many before) (long .levels-long))
+
+  later-ready : (S : Table) → Later number size S → Holds S table levels → Ready list size table levels scratch
+  later-ready S before holds =
+      let alike = in-bytes S before holds in
+      record {
+        readable = read;
+        long = long;
+        columns-most = many before;
+        sound = sound-agrees alike (before .sound);
+        small = small-agrees alike (before .small);
+        holds = agree-holds alike holds;
+        scratch-clear = clear;
+      }
+
+  prepared : (hand : Option Table) → Before number size hand → HoldsHand hand table levels → Prepared list number size table levels scratch
+  unfolding Before HoldsHand
+  prepared none one blank =
+      record { readable = read; long = long; scratch-clear = clear; blank = λ e. blank; ready = λ other. absurd (other one) }
+  prepared (some S) before holds =
+      record {
+        readable = read;
+        long = long;
+        scratch-clear = clear;
+        blank = λ one. absurd (omega (arith, before .later));
+        ready = λ other. later-ready S before holds;
+      }
+
+  -- a step comes to the same on both
+  hand-agrees : (o : Order) (hand : Option Table) → Before number size hand → HoldsHand hand table levels → (found : Option Step)
+      → AgreeOutcome (provided found (StepNotAllowed number) (stepOn o number hand)) (provided found (StepNotAllowed number) (stepOn o number (inHand number size table levels)))
+  unfolding Before HoldsHand inHand stepOn
+  hand-agrees o none one blank found = rw one (outcome-refl _)
+  hand-agrees o (some S) before holds found =
+      rw (ne-eqb number 1 (λ one. omega (arith, before .later)))
+      (provided-agree found _ _ _ (λ step. later-agree o number step (in-bytes S before holds) (before .sound .array .in-range)))
+
+module _ {list : List ℕ} {number : ℕ} {size : Size} {table levels scratch : List ℕ} (way : Underway list number size table levels scratch) where
+  -- what the next step takes
+  pub underway-prepared : Prepared list number size table levels scratch
+  underway-prepared = prepared list number size table levels scratch (way .passing .readable) (way .long) (way .clear) (way .hand) (way .before) (way .holds)
+
+  pub underway-numbered : 1 ≤ number
+  unfolding Before
+  underway-numbered = go (way .hand) (way .before)
+    where
+      go : (hand : Option Table) → Before number size hand → 1 ≤ number
+      go none one = omega arith
+      go (some S) before = omega (arith, before .later)
+
+-- before the first step
+pub underway-start : {list : List ℕ} (size : Size) (table levels scratch : List ℕ) → Passing list → LongEnough table levels scratch
+    → Zeros table → Zeros levels → Zeros scratch → Underway list 1 size table levels scratch
+unfolding Before HoldsHand stepsOn allIn
+underway-start size table levels scratch pass long table-clear levels-clear clear =
+    record {
+      passing = pass;
+      hand = none;
+      before = refl;
+      holds = (table-clear, levels-clear);
+      left = in-order (pass .readable) _;
+      long = long;
+      clear = clear;
+    }
+
+-- ---- what a step left on the sheet in bytes, for the sheet of the definitions
 
 same-refusal : {why other : Refusal} → Refused why ≡ Refused other → why ≡ other
 same-refusal e = cc
@@ -226,74 +326,65 @@ agree-filled table levels (both-filled {A} {B} alike) left =
 agree-filled table levels (both-refused why) left = absurd (refused-unfilled (sym left))
 
 -- a step that is provided and filled leaves a sound sheet
-provided-sound : {list : List ℕ} (pass : Passing list) (n k : ℕ) (S : Table) → Sound S → (found : Option Step)
+provided-sound : {list : List ℕ} (pass : Passing list) (n k : ℕ) (size : Size) (hand : Option Table) → Before n size hand → (found : Option Step)
     → getElem? (pass .readable .order .steps) k ≡ found
-    → {F : Table} → provided found (StepNotAllowed n) (laterStep (pass .readable .order) n S) ≡ filled F → Sound F × SmallEnough F
-unfolding provided
-provided-sound pass n k S sound none there e = absurd (refused-not-filled e)
-provided-sound {list} pass n k S sound (some step) there e =
+    → {F : Table} → provided found (StepNotAllowed n) (stepOn (pass .readable .order) n hand) ≡ filled F → Sound F × SmallEnough F
+unfolding provided stepOn Before
+provided-sound pass n k size hand before none there e = absurd (refused-not-filled e)
+provided-sound {list} pass n k size none before (some step) there e =
+    let read = pass .readable in
+    first-filled (read .order) (reads-iff list (read .order) .0 (read .reads) .1) (read .in-range) (pass .passing) step e
+provided-sound {list} pass n k size (some S) before (some step) there e =
     let read = pass .readable in
     let limits = reads-iff list (read .order) .0 (read .reads) .1 in
-    later-filled (read .order) limits (read .in-range) (pass .passing) n S sound step (all-at StepLimits (read .order .steps) (limits .each-step) k there) e
+    later-filled (read .order) limits (read .in-range) (pass .passing) n S (before .sound) step (all-at StepLimits (read .order .steps) (limits .each-step) k there) e
 
 module _ {list : List ℕ} {number : ℕ} {size : Size} {table levels scratch : List ℕ} (way : Underway list number size table levels scratch)
     (more : number ≤ length (way .passing .readable .order .steps)) where
   the-steps : List Step
   the-steps = way .passing .readable .order .steps
 
-  next : Table → Outcome
-  next S = provided (getElem? the-steps (number - 1)) (StepNotAllowed number) (laterStep (way .passing .readable .order) number S)
+  next : Option Table → Outcome
+  next hand = provided (getElem? the-steps (number - 1)) (StepNotAllowed number) (stepOn (way .passing .readable .order) number hand)
 
-  next-in : (S : Table) → proceedIn list number S ≡ next S
-  unfolding proceedIn next the-steps
-  next-in S = in-order (way .passing .readable) _
-
-  next-agrees : AgreeOutcome (next (way .sheet)) (proceedIn list number (sheetIn table levels size))
-  unfolding next
+  next-agrees : AgreeOutcome (next (way .hand)) (proceedIn list number (inHand number size table levels))
+  unfolding next proceedIn the-steps
   next-agrees =
-      subst (AgreeOutcome (next (way .sheet))) (sym (next-in (sheetIn table levels size)))
-      (provided-agree _ _ _ _ (λ step. later-agree (way .passing .readable .order) number step (in-bytes way) (way .sound .array .in-range)))
+      subst (AgreeOutcome (next (way .hand))) (sym (in-order (way .passing .readable) _))
+      (hand-agrees list number size table levels scratch (way .passing .readable) (way .long) (way .clear) (way .passing .readable .order) (way .hand) (way .before) (way .holds) _)
 
   others : Table → Outcome
   others T = laterSteps (way .passing .readable .order) (number + 1) T (drop number the-steps)
 
-  left-is : allIn list ≡ proceed (next (way .sheet)) others
+  left-is : allIn list ≡ proceed (next (way .hand)) others
   unfolding next others the-steps
-  left-is =
-      way .left
-      ∙ left-next (way .passing .readable .order) number (way .sheet) the-steps (number - 1) (omega (arith, way .later, more))
-      ∙ ap (λ k. proceed (next (way .sheet)) (λ T. laterSteps (way .passing .readable .order) (number + 1) T (drop k the-steps)))
-      (let same : number - 1 + 1 ≡ number = omega (arith, way .later) in same)
+  left-is = way .left ∙ left-next (way .passing .readable .order) number size (way .hand) the-steps (way .before) more
 
   pub step-refused : {answer : Answer} (why : Refusal) (table′ levels′ : List ℕ) → answer ≡ Refused why
-      → Left (proceedIn list number (sheetIn table levels size)) answer table′ levels′
+      → Left (proceedIn list number (inHand number size table levels)) answer table′ levels′
       → Left (allIn list) (Refused why) table′ levels′
   unfolding proceed Left
   step-refused why table′ levels′ is left =
       rw (left-is ∙ ap (λ x. proceed x others) (agree-refused table′ levels′ next-agrees (rw is at left)))
 
   pub step-filled : {answer : Answer} (n m : ℕ) (table′ levels′ scratch′ : List ℕ) → answer ≡ Filled n m
-      → Left (proceedIn list number (sheetIn table levels size)) answer table′ levels′
+      → Left (proceedIn list number (inHand number size table levels)) answer table′ levels′
       → length table′ ≡ length table → length levels′ ≡ length levels → length scratch′ ≡ length scratch
       → Zeros scratch′
       → Underway list (number + 1) (record { runs = n; columns = m }) table′ levels′ scratch′
-  unfolding proceed next others the-steps
+  unfolding proceed next others the-steps stepsOn Before HoldsHand
   step-filled n m table′ levels′ scratch′ is left table-kept levels-kept scratch-kept clear =
       let (S, same, runs, many, holds) = agree-filled table′ levels′ next-agrees (rw is at left) in
-      let (sound, small) = provided-sound (way .passing) number (number - 1) (way .sheet) (way .sound) _ refl same in
+      let (sound, small) = provided-sound (way .passing) number (number - 1) size (way .hand) (way .before) _ refl same in
       record {
         passing = way .passing;
-        sheet = S;
-        later = omega (arith, way .later);
+        hand = some S;
+        before = record { later = omega (arith, underway-numbered way); sound = sound; small = small; runs-are = runs; columns-are = many };
+        holds = holds;
         left =
             left-is
             ∙ ap (λ x. proceed x others) same
             ∙ ap (λ k. laterSteps (way .passing .readable .order) (number + 1) S (drop k the-steps)) (let back : number ≡ number + 1 - 1 = omega arith in back);
-        sound = sound;
-        small = small;
-        holds = holds;
-        runs-are = runs;
-        columns-are = many;
         long = long-kept (way .long) table-kept levels-kept scratch-kept;
         clear = clear;
       }
@@ -301,59 +392,14 @@ module _ {list : List ℕ} {number : ℕ} {size : Size} {table levels scratch : 
 -- no step is left
 pub none-left : {list : List ℕ} {number : ℕ} {size : Size} {table levels scratch : List ℕ} (way : Underway list number size table levels scratch)
     → length (way .passing .readable .order .steps) < number → Left (allIn list) (Filled (size .runs) (size .columns)) table levels
-unfolding Left
-none-left {list} {number} {size} {table} {levels} way done =
-    subst (λ x. Left x (Filled (size .runs) (size .columns)) table levels)
-    (sym
-    (way .left ∙ left-none (way .passing .readable .order) number (way .sheet) (way .passing .readable .order .steps) (number - 1) (omega (arith, way .later, done))))
-    (ap₂ Filled (way .runs-are) (way .columns-are), way .holds)
-
--- ---- the first step
-
-module _ {list : List ℕ} (pass : Passing list) where
-  first : Outcome
-  first = provided (getElem? (pass .readable .order .steps) 0) (StepNotAllowed 1) (firstStep (pass .readable .order))
-
-  start-is : startIn list ≡ first
-  unfolding startIn first
-  start-is = in-order (pass .readable) _
-
-  rest : Table → Outcome
-  rest S = laterSteps (pass .readable .order) 2 S (drop 1 (pass .readable .order .steps))
-
-  all-is : allIn list ≡ proceed first rest
-  unfolding allIn first rest
-  all-is = in-order (pass .readable) _ ∙ all-start (pass .readable .order) (pass .readable .order .steps)
-
-  opened-sound : (found : Option Step) {F : Table} → provided found (StepNotAllowed 1) (firstStep (pass .readable .order)) ≡ filled F → Sound F × SmallEnough F
-  unfolding provided
-  opened-sound none e = absurd (refused-not-filled e)
-  opened-sound (some step) e =
-      let read = pass .readable in
-      first-filled (read .order) (reads-iff list (read .order) .0 (read .reads) .1) (read .in-range) (pass .passing) step e
-
-  pub start-refused : {answer : Answer} (why : Refusal) (table levels : List ℕ) → answer ≡ Refused why → Left (startIn list) answer table levels
-      → Left (allIn list) (Refused why) table levels
-  unfolding proceed Left
-  start-refused why table levels is left =
-      rw (all-is ∙ ap (λ x. proceed x rest) (agree-refused table levels (outcome-refl first) (rw (is, start-is) at left)))
-
-  pub start-filled : {answer : Answer} (n m : ℕ) (table levels scratch : List ℕ) → answer ≡ Filled n m → Left (startIn list) answer table levels → LongEnough table levels scratch → Zeros scratch
-      → Underway list 2 (record { runs = n; columns = m }) table levels scratch
-  unfolding proceed first rest
-  start-filled n m table levels scratch is left long clear =
-      let (S, same, runs, many, holds) = agree-filled table levels (outcome-refl first) (rw (is, start-is) at left) in
-      let (sound, small) = opened-sound (getElem? (pass .readable .order .steps) 0) same in
-      record {
-        passing = pass;
-        sheet = S;
-        later = lit≤ tt;
-        left = all-is ∙ ap (λ x. proceed x rest) same;
-        sound = sound;
-        small = small;
-        holds = holds;
-        runs-are = runs;
-        columns-are = many;
-        long = long;
-        clear = clear;
-      }
+unfolding Before HoldsHand stepsOn Left
+none-left {list} {number} {size} {table} {levels} way done = go (way .hand) (way .before) (way .holds) (way .left)
+  where
+    go : (hand : Option Table) → Before number size hand → HoldsHand hand table levels
+        → allIn list ≡ stepsOn (way .passing .readable .order) number hand (drop (number - 1) (way .passing .readable .order .steps))
+        → Left (allIn list) (Filled (size .runs) (size .columns)) table levels
+    go none one blank left = absurd (omega (arith, done, reads-iff list (way .passing .readable .order) .0 (way .passing .readable .reads) .1 .step-count .0))
+    go (some S) before holds left =
+        subst (λ x. Left x (Filled (size .runs) (size .columns)) table levels)
+        (sym (left ∙ left-none (way .passing .readable .order) number S (way .passing .readable .order .steps) (number - 1) (omega (arith, before .later, done))))
+        (ap₂ Filled (before .runs-are) (before .columns-are), holds)

@@ -12,8 +12,8 @@ step-at-requires c κs = search needs
 enum-known-kind : tie.Need-enum-known-kind
 enum-known-kind c = search needs
 
-later-step-requires : tie.Need-later-step-requires
-later-step-requires c κs =
+step-requires : tie.Need-step-requires
+step-requires c κs =
     let start = c .before .before .before .before .before .before .before .before .before .before .before in (
       record {
         number = start .args .number;
@@ -39,7 +39,7 @@ returns c =
     let start = c .before .before .before .before .before .before .before .before .before .before .before .before .before .before .before .before .before .before in
     let looked = c .before .before .before .before .before .before .before .before .before .before .before .before .before .step-at .ensures in
     let found = c .before .before .before .before .before .before .before .before .before .before .before .kind .given .1 in
-    rw (proceed-found (start .pre .1 .readable) _ (start .pre .0) _ _ _ (sym looked ∙ found)) (c .before .before .before .before .before .before .later-step .ensures)
+    rw (proceed-found (start .pre .1 .readable) _ (start .pre .0) _ _ _ (sym looked ∙ found)) (c .before .before .before .before .before .before .step .ensures)
 
 returns-2 : tie.Need-returns-2
 unfolding Left
@@ -55,7 +55,7 @@ proceed-spec =
     (tie.spec
     step-at-requires
     enum-known-kind
-    later-step-requires
+    step-requires
     enum-told
     same-length
     same-length-2
