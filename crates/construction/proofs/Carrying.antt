@@ -35,11 +35,44 @@ use Rattle.sheets.proofs.Sheets.{first-filled, later-filled}
 use Rattle.sheets.proofs.StepAgreement.{AgreeOutcome, both-filled, both-refused, provided-agree, later-agree}
 use Rattle.layout.specs.Bytes.{Holds, Zeros, LongEnough, sheetIn}
 use Rattle.layout.specs.Step.{Readable, Stands, Ready, firstIn, laterIn, Left}
-use Rattle.construction.specs.Carry.{Passing, Prepared, Underway, Later, Before, HoldsHand, kindAllowed, stepOn, stepsOn, inHand, numberedIn, proceedIn, allIn}
+use Rattle.construction.specs.Carry.{Passing, Prepared, kindAllowed, stepOn, handAfter, lastHand, inHand, numberedIn, proceedIn, allIn, lastIn, handRuns, handLevels}
 use Rattle.layout.specs.declared.Size.{Size}
 use Rattle.promise.proofs.Promises.{refused-unfilled}
 use Rattle.layout.proofs.Operands.{in-order, first-in, later-in, stands-step}
 use Rattle.layout.proofs.Sheets.{holds-agrees, agree-holds}
+
+-- ---- on the way
+
+-- what the steps from number n on come to, by the sheet in hand
+pub stepsOn : Order → ℕ → Option Table → List Step → Outcome
+stepsOn o n none steps = allSteps o steps
+stepsOn o n (some S) steps = laterSteps o n S steps
+
+-- a sheet before step number n: sound, within the limits, and of this size
+pub record Later (number : ℕ) (size : Size) (S : Table) : Type 0 where
+  pub later : 2 ≤ number
+  pub sound : Sound S
+  pub small : SmallEnough S
+  pub runs-are : size .runs ≡ S .runs
+  pub columns-are : size .columns ≡ columns S
+
+-- the sheet in hand before step number n
+pub Before : ℕ → Size → Option Table → Type 0
+Before n size none = n ≡ 1
+Before n size (some S) = Later n size S
+
+-- What the steps take from number n on: a sheet in hand, from which they come to what all steps come to, and end with the sheet with which all
+-- steps end. The sheet is the definitions' own.
+pub record Underway (list : List ℕ) (number : ℕ) (size : Size) (table levels scratch : List ℕ) : Type 0 where
+  pub passing : Passing list
+  pub hand : Option Table
+  pub before : Before number size hand
+  pub runs-first : table ≡ handRuns (length table) hand
+  pub levels-first : levels ≡ handLevels (length levels) hand
+  pub left : allIn list ≡ stepsOn (passing .readable .order) number hand (drop (number - 1) (passing .readable .order .steps))
+  pub last : lastIn list ≡ lastHand (passing .readable .order) number hand (drop (number - 1) (passing .readable .order .steps))
+  pub long : LongEnough table levels scratch
+  pub clear : Zeros scratch
 
 -- ---- single steps of the list
 
@@ -199,11 +232,31 @@ left-next o n size (some S) steps before more =
     ∙ ap (λ k. proceed (provided (getElem? steps (n - 1)) (StepNotAllowed n) (laterStep o n S)) (λ T. laterSteps o (n + 1) T (drop k steps)))
     (let same : n - 1 + 1 ≡ n = omega (arith, before .later) in same)
 
+-- the same of the sheet in hand at the end
+last-at : (o : Order) (n : ℕ) (hand : Option Table) (steps : List Step) (k : ℕ) → k < length steps
+    → lastHand o n hand (drop k steps)
+    ≡ handAfter (provided (getElem? steps k) (StepNotAllowed n) (stepOn o n hand)) hand (λ S. lastHand o (n + 1) (some S) (drop (k + 1) steps))
+unfolding lastHand provided
+last-at o n hand [] k h = absurd (omega arith)
+last-at o n hand (s ∷ steps) zero h = refl
+last-at o n hand (s ∷ steps) (suc k) h =
+    last-at o n hand steps k (omega arith)
+    ∙ ap (λ j. handAfter (provided (getElem? steps k) (StepNotAllowed n) (stepOn o n hand)) hand (λ S. lastHand o (n + 1) (some S) (drop j (s ∷ steps))))
+    (let same : suc (k + 1) ≡ suc k + 1 = omega arith in same)
+
+last-next : (o : Order) (n : ℕ) (hand : Option Table) (steps : List Step) → 1 ≤ n → n ≤ length steps
+    → lastHand o n hand (drop (n - 1) steps)
+    ≡ handAfter (provided (getElem? steps (n - 1)) (StepNotAllowed n) (stepOn o n hand)) hand (λ S. lastHand o (n + 1) (some S) (drop n steps))
+last-next o n hand steps low more =
+    last-at o n hand steps (n - 1) (omega arith)
+    ∙ ap (λ k. handAfter (provided (getElem? steps (n - 1)) (StepNotAllowed n) (stepOn o n hand)) hand (λ S. lastHand o (n + 1) (some S) (drop k steps)))
+    (let same : n - 1 + 1 ≡ n = omega arith in same)
+
 left-none : (o : Order) (n : ℕ) (S : Table) (steps : List Step) (k : ℕ) → length steps ≤ k → laterSteps o n S (drop k steps) ≡ filled S
 unfolding laterSteps
 left-none o n S steps k h = ap (laterSteps o n S) (drop-of-length-le steps h)
 
--- ---- on the way
+-- ---- from one step to the next
 
 pub long-kept : {n m k n′ m′ k′ : ℕ} → Suffices (record { table = n; levels = m; scratch = k }) → n′ ≡ n → m′ ≡ m → k′ ≡ k
     → Suffices (record { table = n′; levels = m′; scratch = k′ })
@@ -254,32 +307,35 @@ module _ (list : List ℕ) (number : ℕ) (size : Size) (table levels scratch : 
         scratch-clear = clear;
       }
 
-  prepared : (hand : Option Table) → Before number size hand → HoldsHand hand table levels → Prepared list number size table levels scratch
-  unfolding Before HoldsHand
-  prepared none one blank =
-      record { readable = read; long = long; scratch-clear = clear; blank = λ e. blank; ready = λ other. absurd (other one) }
-  prepared (some S) before holds =
+  prepared : (hand : Option Table) → Before number size hand → table ≡ handRuns (length table) hand → levels ≡ handLevels (length levels) hand
+      → Prepared list number size table levels scratch
+  unfolding Before handRuns handLevels Zeros
+  prepared none one runs counts =
+      record { readable = read; long = long; scratch-clear = clear; blank = λ e. (runs, counts); ready = λ other. absurd (other one) }
+  prepared (some S) before runs counts =
       record {
         readable = read;
         long = long;
         scratch-clear = clear;
         blank = λ one. absurd (omega (arith, before .later));
-        ready = λ other. later-ready S before holds;
+        ready = λ other. later-ready S before (record { runs-first = runs; levels-first = counts });
       }
 
   -- a step comes to the same on both
-  hand-agrees : (o : Order) (hand : Option Table) → Before number size hand → HoldsHand hand table levels → (found : Option Step)
+  hand-agrees : (o : Order) (hand : Option Table) → Before number size hand → table ≡ handRuns (length table) hand → levels ≡ handLevels (length levels) hand
+      → (found : Option Step)
       → AgreeOutcome (provided found (StepNotAllowed number) (stepOn o number hand)) (provided found (StepNotAllowed number) (stepOn o number (inHand number size table levels)))
-  unfolding Before HoldsHand inHand stepOn
-  hand-agrees o none one blank found = rw one (outcome-refl _)
-  hand-agrees o (some S) before holds found =
+  unfolding Before handRuns handLevels inHand stepOn
+  hand-agrees o none one runs counts found = rw one (outcome-refl _)
+  hand-agrees o (some S) before runs counts found =
+      let holds : Holds S table levels = record { runs-first = runs; levels-first = counts } in
       rw (ne-eqb number 1 (λ one. omega (arith, before .later)))
       (provided-agree found _ _ _ (λ step. later-agree o number step (in-bytes S before holds) (before .sound .array .in-range)))
 
 module _ {list : List ℕ} {number : ℕ} {size : Size} {table levels scratch : List ℕ} (way : Underway list number size table levels scratch) where
   -- what the next step takes
   pub underway-prepared : Prepared list number size table levels scratch
-  underway-prepared = prepared list number size table levels scratch (way .passing .readable) (way .long) (way .clear) (way .hand) (way .before) (way .holds)
+  underway-prepared = prepared list number size table levels scratch (way .passing .readable) (way .long) (way .clear) (way .hand) (way .before) (way .runs-first) (way .levels-first)
 
   pub underway-numbered : 1 ≤ number
   unfolding Before
@@ -292,14 +348,16 @@ module _ {list : List ℕ} {number : ℕ} {size : Size} {table levels scratch : 
 -- before the first step
 pub underway-start : {list : List ℕ} (size : Size) (table levels scratch : List ℕ) → Passing list → LongEnough table levels scratch
     → Zeros table → Zeros levels → Zeros scratch → Underway list 1 size table levels scratch
-unfolding Before HoldsHand stepsOn allIn
+unfolding Before handRuns handLevels stepsOn allIn lastIn Zeros
 underway-start size table levels scratch pass long table-clear levels-clear clear =
     record {
       passing = pass;
       hand = none;
       before = refl;
-      holds = (table-clear, levels-clear);
+      runs-first = table-clear;
+      levels-first = levels-clear;
       left = in-order (pass .readable) _;
+      last = rw (pass .readable .reads);
       long = long;
       clear = clear;
     }
@@ -312,18 +370,20 @@ same-refusal e = cc
 same-sizes : {n m k l : ℕ} → Filled n m ≡ Filled k l → (n ≡ k) × (m ≡ l)
 same-sizes e = (cc, cc)
 
-agree-refused : {x y : Outcome} {why : Refusal} (table levels : List ℕ) → AgreeOutcome x y → Left y (Refused why) table levels → x ≡ refused why
-unfolding Left
-agree-refused table levels (both-filled alike) left = absurd (refused-unfilled (left .0))
-agree-refused table levels (both-refused why) left = ap refused (sym (same-refusal left))
+module _ (table levels table′ levels′ : List ℕ) where
+  agree-refused : {x y : Outcome} {why : Refusal} → AgreeOutcome x y → Left y table levels (Refused why) table′ levels′
+      → (x ≡ refused why) × (table′ ≡ table) × (levels′ ≡ levels)
+  unfolding Left
+  agree-refused (both-filled alike) left = absurd (refused-unfilled (left .0))
+  agree-refused (both-refused why) left = (ap refused (sym (same-refusal (left .0))), left .1, left .2)
 
-agree-filled : {x y : Outcome} {n m : ℕ} (table levels : List ℕ) → AgreeOutcome x y → Left y (Filled n m) table levels
-    → (S : Table) × (x ≡ filled S) × (n ≡ S .runs) × (m ≡ columns S) × Holds S table levels
-unfolding Left
-agree-filled table levels (both-filled {A} {B} alike) left =
-    let (runs, many) = same-sizes (left .0) in
-    (A, refl, runs ∙ sym (alike .same-runs), many ∙ sym (agree-columns alike), agree-holds (agree-sym alike) (left .1))
-agree-filled table levels (both-refused why) left = absurd (refused-unfilled (sym left))
+  agree-filled : {x y : Outcome} {n m : ℕ} → AgreeOutcome x y → Left y table levels (Filled n m) table′ levels′
+      → (S : Table) × (x ≡ filled S) × (n ≡ S .runs) × (m ≡ columns S) × Holds S table′ levels′
+  unfolding Left
+  agree-filled (both-filled {A} {B} alike) left =
+      let (runs, many) = same-sizes (left .0) in
+      (A, refl, runs ∙ sym (alike .same-runs), many ∙ sym (agree-columns alike), agree-holds (agree-sym alike) (left .1))
+  agree-filled (both-refused why) left = absurd (refused-unfilled (sym (left .0)))
 
 -- a step that is provided and filled leaves a sound sheet
 provided-sound : {list : List ℕ} (pass : Passing list) (n k : ℕ) (size : Size) (hand : Option Table) → Before n size hand → (found : Option Step)
@@ -351,7 +411,7 @@ module _ {list : List ℕ} {number : ℕ} {size : Size} {table levels scratch : 
   unfolding next proceedIn the-steps
   next-agrees =
       subst (AgreeOutcome (next (way .hand))) (sym (in-order (way .passing .readable) _))
-      (hand-agrees list number size table levels scratch (way .passing .readable) (way .long) (way .clear) (way .passing .readable .order) (way .hand) (way .before) (way .holds) _)
+      (hand-agrees list number size table levels scratch (way .passing .readable) (way .long) (way .clear) (way .passing .readable .order) (way .hand) (way .before) (way .runs-first) (way .levels-first) _)
 
   others : Table → Outcome
   others T = laterSteps (way .passing .readable .order) (number + 1) T (drop number the-steps)
@@ -360,46 +420,64 @@ module _ {list : List ℕ} {number : ℕ} {size : Size} {table levels scratch : 
   unfolding next others the-steps
   left-is = way .left ∙ left-next (way .passing .readable .order) number size (way .hand) the-steps (way .before) more
 
+  following : Table → Option Table
+  following S = lastHand (way .passing .readable .order) (number + 1) (some S) (drop number the-steps)
+
+  last-is : lastIn list ≡ handAfter (next (way .hand)) (way .hand) following
+  unfolding next following the-steps
+  last-is = way .last ∙ last-next (way .passing .readable .order) number (way .hand) the-steps (underway-numbered way) more
+
   pub step-refused : {answer : Answer} (why : Refusal) (table′ levels′ : List ℕ) → answer ≡ Refused why
-      → Left (proceedIn list number (inHand number size table levels)) answer table′ levels′
-      → Left (allIn list) (Refused why) table′ levels′
-  unfolding proceed Left
+      → Left (proceedIn list number (inHand number size table levels)) table levels answer table′ levels′
+      → Left (allIn list) (handRuns (length table) (lastIn list)) (handLevels (length levels) (lastIn list)) (Refused why) table′ levels′
+  unfolding proceed handAfter Left
   step-refused why table′ levels′ is left =
-      rw (left-is ∙ ap (λ x. proceed x others) (agree-refused table′ levels′ next-agrees (rw is at left)))
+      let (refuses, same-table, same-levels) = agree-refused table levels table′ levels′ next-agrees (rw is at left) in
+      rw (left-is ∙ ap (λ x. proceed x others) refuses, last-is ∙ ap (λ x. handAfter x (way .hand) following) refuses)
+      (refl, same-table ∙ way .runs-first, same-levels ∙ way .levels-first)
 
   pub step-filled : {answer : Answer} (n m : ℕ) (table′ levels′ scratch′ : List ℕ) → answer ≡ Filled n m
-      → Left (proceedIn list number (inHand number size table levels)) answer table′ levels′
+      → Left (proceedIn list number (inHand number size table levels)) table levels answer table′ levels′
       → length table′ ≡ length table → length levels′ ≡ length levels → length scratch′ ≡ length scratch
       → Zeros scratch′
       → Underway list (number + 1) (record { runs = n; columns = m }) table′ levels′ scratch′
-  unfolding proceed next others the-steps stepsOn Before HoldsHand
+  unfolding proceed handAfter next others following the-steps stepsOn Before handRuns handLevels
   step-filled n m table′ levels′ scratch′ is left table-kept levels-kept scratch-kept clear =
-      let (S, same, runs, many, holds) = agree-filled table′ levels′ next-agrees (rw is at left) in
+      let (S, same, runs, many, holds) = agree-filled table levels table′ levels′ next-agrees (rw is at left) in
+      let back : number ≡ number + 1 - 1 = omega arith in
       let (sound, small) = provided-sound (way .passing) number (number - 1) size (way .hand) (way .before) _ refl same in
       record {
         passing = way .passing;
         hand = some S;
         before = record { later = omega (arith, underway-numbered way); sound = sound; small = small; runs-are = runs; columns-are = many };
-        holds = holds;
+        runs-first = holds .runs-first;
+        levels-first = holds .levels-first;
         left =
             left-is
             ∙ ap (λ x. proceed x others) same
-            ∙ ap (λ k. laterSteps (way .passing .readable .order) (number + 1) S (drop k the-steps)) (let back : number ≡ number + 1 - 1 = omega arith in back);
+            ∙ ap (λ k. laterSteps (way .passing .readable .order) (number + 1) S (drop k the-steps)) back;
+        last =
+            last-is
+            ∙ ap (λ x. handAfter x (way .hand) following) same
+            ∙ ap (λ k. lastHand (way .passing .readable .order) (number + 1) (some S) (drop k the-steps)) back;
         long = long-kept (way .long) table-kept levels-kept scratch-kept;
         clear = clear;
       }
 
 -- no step is left
 pub none-left : {list : List ℕ} {number : ℕ} {size : Size} {table levels scratch : List ℕ} (way : Underway list number size table levels scratch)
-    → length (way .passing .readable .order .steps) < number → Left (allIn list) (Filled (size .runs) (size .columns)) table levels
-unfolding Before HoldsHand stepsOn Left
-none-left {list} {number} {size} {table} {levels} way done = go (way .hand) (way .before) (way .holds) (way .left)
+    → length (way .passing .readable .order .steps) < number → (runs counts : List ℕ)
+    → Left (allIn list) runs counts (Filled (size .runs) (size .columns)) table levels
+unfolding Before handRuns handLevels stepsOn Left
+none-left {list} {number} {size} {table} {levels} way done runs counts = go (way .hand) (way .before) (way .runs-first) (way .levels-first) (way .left)
   where
-    go : (hand : Option Table) → Before number size hand → HoldsHand hand table levels
+    go : (hand : Option Table) → Before number size hand → table ≡ handRuns (length table) hand → levels ≡ handLevels (length levels) hand
         → allIn list ≡ stepsOn (way .passing .readable .order) number hand (drop (number - 1) (way .passing .readable .order .steps))
-        → Left (allIn list) (Filled (size .runs) (size .columns)) table levels
-    go none one blank left = absurd (omega (arith, done, reads-iff list (way .passing .readable .order) .0 (way .passing .readable .reads) .1 .step-count .0))
-    go (some S) before holds left =
-        subst (λ x. Left x (Filled (size .runs) (size .columns)) table levels)
-        (sym (left ∙ left-none (way .passing .readable .order) number S (way .passing .readable .order .steps) (number - 1) (omega (arith, before .later, done))))
-        (ap₂ Filled (before .runs-are) (before .columns-are), holds)
+        → Left (allIn list) runs counts (Filled (size .runs) (size .columns)) table levels
+    go none one runs-first levels-first left =
+        absurd (omega (arith, done, reads-iff list (way .passing .readable .order) .0 (way .passing .readable .reads) .1 .step-count .0))
+    go (some S) before runs-first levels-first left =
+        subst (λ x. Left x runs counts (Filled (size .runs) (size .columns)) table levels)
+        (sym
+        (left ∙ left-none (way .passing .readable .order) number S (way .passing .readable .order .steps) (number - 1) (omega (arith, before .later, done))))
+        (ap₂ Filled (before .runs-are) (before .columns-are), record { runs-first = runs-first; levels-first = levels-first })

@@ -3,20 +3,20 @@
 use mathlib.Core.Path.{_≡_}
 use mathlib.Core.Logic.{_≢_}
 use mathlib.Core.Bool.{Bool, cond}
-use mathlib.Core.List.{List}
+use mathlib.Core.List.{List, [], _∷_}
 use mathlib.Core.Option.{Option, none, some}
-use Prim.Native.Nat.{ℕ, _-_, _≤_}
+use Prim.Native.Nat.{ℕ, _+_, _-_}
 use lib.Dec.{eqb, leb}
-use lib.ListN.{drop, getElem?}
-use Rattle.counting.specs.Table.{Table, columns}
+use lib.ListN.{getElem?}
+use Rattle.counting.specs.Table.{Table}
 use Rattle.order.specs.Order.{Order, Step, All}
-use Rattle.order.specs.Places.{operandsOf}
-use Rattle.sheets.specs.Sheet.{Sound, SmallEnough}
-use Rattle.sheets.specs.Steps.{Outcome, provided, firstStep, laterStep, laterSteps, allSteps}
+use Rattle.order.specs.Grammar.{readOrder}
+use Rattle.order.specs.Places.{orNone, operandsOf}
+use Rattle.sheets.specs.Steps.{Outcome, filled, refused, provided, firstStep, laterStep, allSteps}
 use Rattle.sheets.specs.Outcome.{ingredientsRefusal, unless}
 use Rattle.sheets.specs.Fillable.{MeetsDefinition}
 use Rattle.sheets.specs.declared.answer.Refusal.the-variants.{StepNotAllowed}
-use Rattle.layout.specs.Bytes.{Holds, Zeros, LongEnough, sheetIn}
+use Rattle.layout.specs.Bytes.{runsOf, zeros, padded, Zeros, LongEnough, sheetIn}
 use Rattle.layout.specs.Step.{Readable, Ready, inOrder}
 use Rattle.layout.specs.declared.Size.{Size}
 
@@ -34,10 +34,15 @@ unfoldable pub stepOn : Order → ℕ → Option Table → Step → Outcome
 stepOn o n none step = firstStep o step
 stepOn o n (some S) step = laterStep o n S step
 
--- what the steps from number n on come to, by the sheet in hand
-unfoldable pub stepsOn : Order → ℕ → Option Table → List Step → Outcome
-stepsOn o n none steps = allSteps o steps
-stepsOn o n (some S) steps = laterSteps o n S steps
+-- the sheet in hand after a step and those that follow it: a refused step leaves the one before it, and none follows
+unfoldable pub handAfter : Outcome → Option Table → (Table → Option Table) → Option Table
+handAfter (filled S) hand following = following S
+handAfter (refused why) hand following = hand
+
+-- the sheet in hand after the steps from number n on
+unfoldable pub lastHand : Order → ℕ → Option Table → List Step → Option Table
+lastHand o n hand [] = hand
+lastHand o n hand (step ∷ steps) = handAfter (stepOn o n hand step) hand (λ S. lastHand o (n + 1) (some S) steps)
 
 -- what step number n comes to that is of this kind and has its operands from place at on
 unfoldable pub numberedIn : List ℕ → ℕ → Option Table → ℕ → ℕ → Outcome
@@ -50,6 +55,10 @@ proceedIn list n hand = inOrder list (λ o. provided (getElem? (o .steps) (n - 1
 -- what all steps come to
 unfoldable pub allIn : List ℕ → Outcome
 allIn list = inOrder list (λ o. allSteps o (o .steps))
+
+-- the sheet in hand after all steps: that of the last one, or that on which a step was refused
+unfoldable pub lastIn : List ℕ → Option Table
+lastIn list = orNone none (λ o end. lastHand o 1 none (o .steps)) (readOrder list)
 
 -- what question 4 and then all steps come to
 unfoldable pub passedIn : List ℕ → Outcome
@@ -67,30 +76,12 @@ pub record Prepared (list : List ℕ) (number : ℕ) (size : Size) (table levels
   pub blank : number ≡ 1 → Zeros table × Zeros levels
   pub ready : number ≢ 1 → Ready list size table levels scratch
 
--- a sheet before step number n: sound, within the limits, and of this size
-pub record Later (number : ℕ) (size : Size) (S : Table) : Type 0 where
-  pub later : 2 ≤ number
-  pub sound : Sound S
-  pub small : SmallEnough S
-  pub runs-are : size .runs ≡ S .runs
-  pub columns-are : size .columns ≡ columns S
+-- Every byte of a run table of n bytes that holds the sheet in hand and nothing else: zeros where there is none.
+unfoldable pub handRuns : ℕ → Option Table → List ℕ
+handRuns n none = zeros n
+handRuns n (some S) = padded n (runsOf S)
 
--- the sheet in hand before step number n
-unfoldable pub Before : ℕ → Size → Option Table → Type 0
-Before n size none = n ≡ 1
-Before n size (some S) = Later n size S
-
--- the run table and the level list hold the sheet in hand and nothing else: they are blank where there is none
-unfoldable pub HoldsHand : Option Table → List ℕ → List ℕ → Type 0
-HoldsHand none table levels = Zeros table × Zeros levels
-HoldsHand (some S) table levels = Holds S table levels
-
--- What the steps take from number n on: a sheet in hand, from which they come to what all steps come to. The sheet is the definitions' own.
-pub record Underway (list : List ℕ) (number : ℕ) (size : Size) (table levels scratch : List ℕ) : Type 0 where
-  pub passing : Passing list
-  pub hand : Option Table
-  pub before : Before number size hand
-  pub holds : HoldsHand hand table levels
-  pub left : allIn list ≡ stepsOn (passing .readable .order) number hand (drop (number - 1) (passing .readable .order .steps))
-  pub long : LongEnough table levels scratch
-  pub clear : Zeros scratch
+-- the same of a level list
+unfoldable pub handLevels : ℕ → Option Table → List ℕ
+handLevels n none = zeros n
+handLevels n (some S) = padded n (S .levels)

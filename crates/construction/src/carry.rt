@@ -1,9 +1,10 @@
 // The steps of an order, one after the other: a step's questions come before the next step's.
 ghost use mathlib.Core.Path.{_≡_};
 ghost use Prim.Native.Nat.{_≤_};
+ghost use lib.ListN.{length};
 ghost use Rattle.layout.specs.Bytes.{Zeros, LongEnough};
 ghost use Rattle.layout.specs.Step.{Stands, Left};
-ghost use Rattle.construction.specs.Carry.{Passing, Prepared, kindAllowed, inHand, numberedIn, proceedIn, allIn};
+ghost use Rattle.construction.specs.Carry.{Passing, Prepared, kindAllowed, inHand, numberedIn, proceedIn, allIn, lastIn, handRuns, handLevels};
 ghost use Rattle.promise.specs.Promise.{Settled};
 use buffers::clear;
 use layout::Size;
@@ -38,7 +39,7 @@ fn step(
 ) -> Answer
     requires { ⌜ Stands (now list) kind at ⌝ }
     requires { ⌜ Prepared (now list) number size (now table) (now levels) (now scratch) ⌝ }
-    ensures { λ r. ⌜ Left (numberedIn (now (list .entry)) number (inHand number size (now (table .entry)) (now (levels .entry))) kind at) r (now (table .exit)) (now (levels .exit)) ⌝ }
+    ensures { λ r. ⌜ Left (numberedIn (now (list .entry)) number (inHand number size (now (table .entry)) (now (levels .entry))) kind at) (now (table .entry)) (now (levels .entry)) r (now (table .exit)) (now (levels .exit)) ⌝ }
     ensures { λ r. ⌜ Zeros (now (scratch .exit)) ⌝ }
 {
     let not_allowed = Answer::Refused(Refusal::StepNotAllowed { step: number });
@@ -66,7 +67,7 @@ fn proceed(
 ) -> Answer
     requires { ⌜ 1 ≤ number ⌝ }
     requires { ⌜ Prepared (now list) number size (now table) (now levels) (now scratch) ⌝ }
-    ensures { λ r. ⌜ Left (proceedIn (now (list .entry)) number (inHand number size (now (table .entry)) (now (levels .entry)))) r (now (table .exit)) (now (levels .exit)) ⌝ }
+    ensures { λ r. ⌜ Left (proceedIn (now (list .entry)) number (inHand number size (now (table .entry)) (now (levels .entry)))) (now (table .entry)) (now (levels .entry)) r (now (table .exit)) (now (levels .exit)) ⌝ }
     ensures { λ r. ⌜ Zeros (now (scratch .exit)) ⌝ }
 {
     match step_at(list, number) {
@@ -86,12 +87,12 @@ fn proceed(
     }
 }
 
-// All steps, in turn. There is no sheet in hand at the start.
+// All steps, in turn. There is no sheet in hand at the start; a step that refuses the order leaves the one before it.
 fn carry_out(list: &[u16], table: &mut [u8], levels: &mut [u8], scratch: &mut [u8]) -> Answer
     requires { ⌜ Passing (now list) ⌝ }
     requires { ⌜ LongEnough (now table) (now levels) (now scratch) ⌝ }
     requires { ⌜ Zeros (now table) × Zeros (now levels) × Zeros (now scratch) ⌝ }
-    ensures { λ r. ⌜ Left (allIn (now (list .entry))) r (now (table .exit)) (now (levels .exit)) ⌝ }
+    ensures { λ r. ⌜ Left (allIn (now (list .entry))) (handRuns (length (now (table .entry))) (lastIn (now (list .entry)))) (handLevels (length (now (levels .entry))) (lastIn (now (list .entry)))) r (now (table .exit)) (now (levels .exit)) ⌝ }
     ensures { λ r. ⌜ Zeros (now (scratch .exit)) ⌝ }
 {
     let last = step_count(list);
@@ -115,7 +116,7 @@ fn carry_out(list: &[u16], table: &mut [u8], levels: &mut [u8], scratch: &mut [u
     }
 }
 
-// All steps; where one of them refuses the order, the sheet before it is cleared.
+// All steps; where one of them refuses the order, the sheet that it left is cleared.
 pub(crate) fn carry_or_clear(
     list: &[u16],
     table: &mut [u8],

@@ -54,7 +54,8 @@ pub record Ready (list : List ℕ) (size : Size) (table levels scratch : List �
   pub holds : Holds (sheetIn table levels size) table levels
   pub scratch-clear : Zeros scratch
 
--- What is there where a step comes to an outcome: the answer, and the sheet that it leaves. A refused step leaves no sheet to go on with.
-unfoldable pub Left : Outcome → Answer → List ℕ → List ℕ → Type 0
-Left (filled S) answer table levels = (answer ≡ Filled (S .runs) (columns S)) × Holds S table levels
-Left (refused why) answer table levels = answer ≡ Refused why
+-- What is there where a step comes to an outcome: the answer, and the run table and the level list, which were table and levels before. A refused
+-- step leaves them as they were.
+unfoldable pub Left : Outcome → List ℕ → List ℕ → Answer → List ℕ → List ℕ → Type 0
+Left (filled S) table levels answer table′ levels′ = (answer ≡ Filled (S .runs) (columns S)) × Holds S table′ levels′
+Left (refused why) table levels answer table′ levels′ = (answer ≡ Refused why) × (table′ ≡ table) × (levels′ ≡ levels)

@@ -126,9 +126,10 @@ module _ {list : List ℕ} {at : ℕ} {size : Size} {table levels scratch : List
   cs = membersOf numbers
 
   pub merge-refused : (n : ℕ) → false ≡ mergeFits p cs (tableOf [] (take (size .columns) levels) 0)
-      → (table′ levels′ : List ℕ) → Left (laterIn list n (sheetIn table levels size) 4 at) (Refused (PartsDoNotFit n)) table′ levels′
+      → Left (laterIn list n (sheetIn table levels size) 4 at) table levels (Refused (PartsDoNotFit n)) table levels
   unfolding Left
-  merge-refused n e table′ levels′ = rw (merge-in (ready .readable) stands n (sheetIn table levels size), not-fitting n p cs table levels size e) refl
+  merge-refused n e =
+      rw (merge-in (ready .readable) stands n (sheetIn table levels size), not-fitting n p cs table levels size e) (refl, refl, refl)
 
   module _ (e : true ≡ mergeFits p cs (tableOf [] (take (size .columns) levels) 0)) where
     pub merge-fitting : Fitting p numbers table (take (size .columns) levels) (size .runs)
@@ -142,12 +143,13 @@ module _ {list : List ℕ} {at : ℕ} {size : Size} {table levels scratch : List
         }
 
     pub merge-wrong : (n : ℕ) {run number : ℕ} → At run number ≡ asFault (memberFault p cs (tableOf table (take (size .columns) levels) (size .runs)))
-        → (table′ levels′ : List ℕ) → Left (laterIn list n (sheetIn table levels size) 4 at) (Refused (NotTheSum n run number)) table′ levels′
+        → Left (laterIn list n (sheetIn table levels size) 4 at) table levels (Refused (NotTheSum n run number)) table levels
     unfolding Left
-    merge-wrong n found table′ levels′ = rw (merge-in (ready .readable) stands n (sheetIn table levels size), not-the-sum n p cs table levels size e found) refl
+    merge-wrong n found =
+        rw (merge-in (ready .readable) stands n (sheetIn table levels size), not-the-sum n p cs table levels size e found) (refl, refl, refl)
 
     pub merge-done : (n : ℕ) → Nowhere ≡ asFault (memberFault p cs (tableOf table (take (size .columns) levels) (size .runs)))
-        → (answer : Answer) (table′ levels′ : List ℕ) → Left (filled (mergeStep p cs (sheetIn table levels size))) answer table′ levels′
-        → Left (laterIn list n (sheetIn table levels size) 4 at) answer table′ levels′
+        → (answer : Answer) (table′ levels′ : List ℕ) → Left (filled (mergeStep p cs (sheetIn table levels size))) table levels answer table′ levels′
+        → Left (laterIn list n (sheetIn table levels size) 4 at) table levels answer table′ levels′
     merge-done n found answer table′ levels′ left =
         rw (merge-in (ready .readable) stands n (sheetIn table levels size), all-sums n p cs table levels size e (ready .small) found) left

@@ -80,7 +80,7 @@ module _ {p : ℕ} {numbers roles : List ℕ} {size : Size} {table levels scratc
     -- what it then leaves
     pub settled : {table′ levels′ : List ℕ} → length table′ ≡ length table → length levels′ ≡ length levels
         → table′ ≡ padded (length table) (take built bytes) → levels′ ≡ padded (length levels) (take left counts)
-        → Left (filled (mergeStep p members (sheetIn table levels size))) (Filled (size .runs) left) table′ levels′
+        → Left (filled (mergeStep p members (sheetIn table levels size))) table levels (Filled (size .runs) left) table′ levels′
     unfolding Left sheetIn mergeStep fromSources tableOf
     settled same-table same-levels runs-are levels-are = (
       ap (Filled (size .runs)) left-many,

@@ -39,7 +39,7 @@ pub fn merge(
 ) -> Answer
     requires { ⌜ Stands (now list) 4 at ⌝ }
     requires { ⌜ Ready (now list) size (now table) (now levels) (now scratch) ⌝ }
-    ensures { λ r. ⌜ Left (laterIn (now (list .entry)) number (sheetIn (now (table .entry)) (now (levels .entry)) size) 4 at) r (now (table .exit)) (now (levels .exit)) ⌝ }
+    ensures { λ r. ⌜ Left (laterIn (now (list .entry)) number (sheetIn (now (table .entry)) (now (levels .entry)) size) 4 at) (now (table .entry)) (now (levels .entry)) r (now (table .exit)) (now (levels .exit)) ⌝ }
     ensures { λ r. ⌜ Zeros (now (scratch .exit)) ⌝ }
 {
     let p = list[at] as usize;
@@ -144,7 +144,7 @@ fn merge_sheet(
     scratch: &mut [u8],
 ) -> Answer
     requires { ⌜ Mergeable p (now members) (now roles) size (now table) (now levels) (now scratch) ⌝ }
-    ensures { λ r. ⌜ Left (filled (mergeStep p (membersOf (now (members .entry))) (sheetIn (now (table .entry)) (now (levels .entry)) size))) r (now (table .exit)) (now (levels .exit)) ⌝ }
+    ensures { λ r. ⌜ Left (filled (mergeStep p (membersOf (now (members .entry))) (sheetIn (now (table .entry)) (now (levels .entry)) size))) (now (table .entry)) (now (levels .entry)) r (now (table .exit)) (now (levels .exit)) ⌝ }
     ensures { λ r. ⌜ Zeros (now (scratch .exit)) ⌝ }
 {
     let runs = size.runs;

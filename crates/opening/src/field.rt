@@ -47,7 +47,7 @@ pub fn field(list: &[u16], at: usize, table: &mut [u8], levels: &mut [u8]) -> An
     requires { ⌜ Readable (now list) ⌝ }
     requires { ⌜ (65536 ≤ length (now table)) × Zeros (now table) ⌝ }
     requires { ⌜ (128 ≤ length (now levels)) × Zeros (now levels) ⌝ }
-    ensures { λ r. ⌜ Left (firstIn (now (list .entry)) 2 at) r (now (table .exit)) (now (levels .exit)) ⌝ }
+    ensures { λ r. ⌜ Left (firstIn (now (list .entry)) 2 at) (now (table .entry)) (now (levels .entry)) r (now (table .exit)) (now (levels .exit)) ⌝ }
 {
     match ingredient_at(list, list[at] as usize) {
         Located::Generator {
@@ -77,7 +77,7 @@ fn fill(list: &[u16], g: GeneratorAt, table: &mut [u8], levels: &mut [u8]) -> An
     requires { ⌜ FieldStands (now list) g ⌝ }
     requires { ⌜ (65536 ≤ length (now table)) × Zeros (now table) ⌝ }
     requires { ⌜ (128 ≤ length (now levels)) × Zeros (now levels) ⌝ }
-    ensures { λ r. ⌜ Left (filled (fieldStep (fieldGenerator (now (list .entry)) g))) r (now (table .exit)) (now (levels .exit)) ⌝ }
+    ensures { λ r. ⌜ Left (filled (fieldStep (fieldGenerator (now (list .entry)) g))) (now (table .entry)) (now (levels .entry)) r (now (table .exit)) (now (levels .exit)) ⌝ }
 {
     let runs = power(g.s as usize, g.t);
     put_levels(list, g, levels);

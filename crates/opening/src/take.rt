@@ -18,7 +18,7 @@ pub fn take(list: &[u16], at: usize, table: &mut [u8], levels: &mut [u8]) -> Ans
     requires { ⌜ Readable (now list) ⌝ }
     requires { ⌜ (65536 ≤ length (now table)) × Zeros (now table) ⌝ }
     requires { ⌜ (128 ≤ length (now levels)) × Zeros (now levels) ⌝ }
-    ensures { λ r. ⌜ Left (firstIn (now (list .entry)) 1 at) r (now (table .exit)) (now (levels .exit)) ⌝ }
+    ensures { λ r. ⌜ Left (firstIn (now (list .entry)) 1 at) (now (table .entry)) (now (levels .entry)) r (now (table .exit)) (now (levels .exit)) ⌝ }
 {
     let named = table_named(list, list[at] as usize);
     if let NamedTable::Missing = named {

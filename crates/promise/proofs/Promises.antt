@@ -236,21 +236,23 @@ module _ (list table levels scratch : List ℕ) (answer : Answer) (table′ leve
 
 -- ---- from what the questions left
 
-left-answer : (x : Outcome) {answer : Answer} (table levels : List ℕ) → Left x answer table levels → answer ≡ answerTo x
+left-answer : (x : Outcome) (was-table was-levels : List ℕ) {answer : Answer} (table levels : List ℕ) → Left x was-table was-levels answer table levels
+    → answer ≡ answerTo x
 unfolding Left answerTo
-left-answer (filled S) table levels left = left .0
-left-answer (refused why) table levels left = left
+left-answer (filled S) was-table was-levels table levels left = left .0
+left-answer (refused why) was-table was-levels table levels left = left .0
 
-left-filled : (x : Outcome) (n m : ℕ) (table levels : List ℕ) → Left x (Filled n m) table levels
+left-filled : (x : Outcome) (was-table was-levels : List ℕ) (n m : ℕ) (table levels : List ℕ) → Left x was-table was-levels (Filled n m) table levels
     → (table ≡ tableBytes (length table) x) × (levels ≡ levelBytes (length levels) x)
 unfolding Left tableBytes levelBytes
-left-filled (filled S) n m table levels left = (left .1 .runs-first, left .1 .levels-first)
-left-filled (refused why) n m table levels left = absurd (refused-unfilled (sym left))
+left-filled (filled S) was-table was-levels n m table levels left = (left .1 .runs-first, left .1 .levels-first)
+left-filled (refused why) was-table was-levels n m table levels left = absurd (refused-unfilled (sym (left .0)))
 
-left-refused : (x : Outcome) (why : Refusal) (table levels : List ℕ) → Left x (Refused why) table levels → x ≡ refused why
+left-refused : (x : Outcome) (was-table was-levels : List ℕ) (why : Refusal) (table levels : List ℕ) → Left x was-table was-levels (Refused why) table levels
+    → x ≡ refused why
 unfolding Left
-left-refused (filled S) why table levels left = absurd (refused-unfilled (left .0))
-left-refused (refused other) why table levels left = ap refused cc
+left-refused (filled S) was-table was-levels why table levels left = absurd (refused-unfilled (left .0))
+left-refused (refused other) was-table was-levels why table levels left = let same = left .0 in ap refused cc
 
 -- question 1 decides whether the others are asked
 planned-short : (list : List ℕ) (n m k : ℕ) → suffice n m k ≡ false → planned list n m k ≡ refused ShortBuffers
@@ -262,12 +264,13 @@ unfolding planned
 planned-long list n m k long = ap (λ b. cond b (outcome list) (refused ShortBuffers)) long
 
 -- what a filled outcome leaves
-pub settled-filled : (x : Outcome) {answer : Answer} (n m : ℕ) {table levels : List ℕ} → answer ≡ Filled n m → Left x answer table levels
+pub settled-filled : (x : Outcome) (was-table was-levels : List ℕ) {answer : Answer} (n m : ℕ) {table levels : List ℕ} → answer ≡ Filled n m
+    → Left x was-table was-levels answer table levels
     → Settled x (Filled n m) table levels
-settled-filled x n m {table} {levels} is left =
+settled-filled x was-table was-levels n m {table} {levels} is left =
     let fills = rw is at left in
-    let bytes = left-filled x n m table levels fills in
-    record { answered = left-answer x table levels fills; table-is = bytes .0; levels-are = bytes .1 }
+    let bytes = left-filled x was-table was-levels n m table levels fills in
+    record { answered = left-answer x was-table was-levels table levels fills; table-is = bytes .0; levels-are = bytes .1 }
 
 -- zeros, where the outcome is a refusal
 pub settled-zeros : {x : Outcome} {why : Refusal} {table levels : List ℕ} → x ≡ refused why → Zeros table → Zeros levels
@@ -276,12 +279,12 @@ unfolding Zeros answerTo tableBytes levelBytes
 settled-zeros refuses table-clear levels-clear =
     record { answered = rw refuses; table-is = rw refuses table-clear; levels-are = rw refuses levels-clear }
 
-pub settled-refused : (x : Outcome) {answer : Answer} (why : Refusal) (left-table left-levels : List ℕ) {table levels : List ℕ}
-    → answer ≡ Refused why → Left x answer left-table left-levels
+pub settled-refused : (x : Outcome) (was-table was-levels : List ℕ) {answer : Answer} (why : Refusal) (left-table left-levels : List ℕ) {table levels : List ℕ}
+    → answer ≡ Refused why → Left x was-table was-levels answer left-table left-levels
     → table ≡ zeros (length left-table) → levels ≡ zeros (length left-levels)
     → Settled x (Refused why) table levels
-settled-refused x why left-table left-levels is left table-is levels-are =
-    settled-zeros (left-refused x why left-table left-levels (rw is at left))
+settled-refused x was-table was-levels why left-table left-levels is left table-is levels-are =
+    settled-zeros (left-refused x was-table was-levels why left-table left-levels (rw is at left))
     (zeros-all (length left-table) table-is)
     (zeros-all (length left-levels) levels-are)
 

@@ -145,7 +145,7 @@ pub fn split(
 ) -> Answer
     requires { ⌜ Stands (now list) 5 at ⌝ }
     requires { ⌜ Ready (now list) size (now table) (now levels) (now scratch) ⌝ }
-    ensures { λ r. ⌜ Left (laterIn (now (list .entry)) number (sheetIn (now (table .entry)) (now (levels .entry)) size) 5 at) r (now (table .exit)) (now (levels .exit)) ⌝ }
+    ensures { λ r. ⌜ Left (laterIn (now (list .entry)) number (sheetIn (now (table .entry)) (now (levels .entry)) size) 5 at) (now (table .entry)) (now (levels .entry)) r (now (table .exit)) (now (levels .exit)) ⌝ }
     ensures { λ r. ⌜ Zeros (now (scratch .exit)) ⌝ }
 {
     let named = table_named(list, list[at + 1] as usize);

@@ -193,26 +193,26 @@ module _ (Ds : List Matrix) (k : Option Table) (S : Table) (rows : ℕ) (e : row
   unfolding sumFits partsFit fitTogether
   same-test = rw e
 
-  pub left-misfit : false ≡ partsFit rows Ds (adjoinedTable rows k) (S .levels) → Left (operate n S (sum Ds k)) (Refused (PartsDoNotFit n)) table levels
+  pub left-misfit : false ≡ partsFit rows Ds (adjoinedTable rows k) (S .levels) → Left (operate n S (sum Ds k)) table levels (Refused (PartsDoNotFit n)) table levels
   unfolding operate fits Left
-  left-misfit fails = rw (e, same-test ∙ sym fails) refl
+  left-misfit fails = rw (e, same-test ∙ sym fails) (refl, refl, refl)
 
-  pub left-fits : (answer : Answer) → true ≡ partsFit rows Ds (adjoinedTable rows k) (S .levels)
-      → Left (sized n (sumStep levelSum Ds (adjoinedTable rows k) S)) answer table levels → Left (operate n S (sum Ds k)) answer table levels
+  pub left-fits : (answer : Answer) (table′ levels′ : List ℕ) → true ≡ partsFit rows Ds (adjoinedTable rows k) (S .levels)
+      → Left (sized n (sumStep levelSum Ds (adjoinedTable rows k) S)) table levels answer table′ levels′ → Left (operate n S (sum Ds k)) table levels answer table′ levels′
   unfolding operate fits applied wrongMember afterSums
-  left-fits answer holds left = rw (e, same-test ∙ sym holds) left
+  left-fits answer table′ levels′ holds left = rw (e, same-test ∙ sym holds) left
 
 -- ---- the sheet that is built and the definition's are left alike
 
 pub meets-left : {list : List ℕ} {Ds : List Matrix} {rows : ℕ} {entries widths : List ℕ} → Serves list Ds rows entries widths → rowsOf Ds ≡ rows
-    → (t : NamedTable) (table levels : List ℕ) (runs n : ℕ) (answer : Answer) (table′ levels′ : List ℕ)
-    → Left (sized n (builtSheet list entries widths rows (tableIn list t) table levels runs)) answer table′ levels′
-    → Left (sized n (sumStep levelSum Ds (adjoinedTable rows (someTable list t)) (tableOf table levels runs))) answer table′ levels′
-meets-left {list} {Ds} {rows} {entries} {widths} w e t table levels runs n answer table′ levels′ left =
+    → (t : NamedTable) (cells counts : List ℕ) (runs n : ℕ) (table levels : List ℕ) (answer : Answer) (table′ levels′ : List ℕ)
+    → Left (sized n (builtSheet list entries widths rows (tableIn list t) cells counts runs)) table levels answer table′ levels′
+    → Left (sized n (sumStep levelSum Ds (adjoinedTable rows (someTable list t)) (tableOf cells counts runs))) table levels answer table′ levels′
+meets-left {list} {Ds} {rows} {entries} {widths} w e t cells counts runs n table levels answer table′ levels′ left =
     let K = adjoinedTable rows (someTable list t) in
-    left-same n (builtSheet list entries widths rows K table levels runs) (sumStep levelSum Ds K (tableOf table levels runs))
-    (sym (meets-size w K table levels runs e)) (sym (meets-levels w K table levels runs e)) (sym (meets-runs w K table levels runs e)) answer table′ levels′
-    (rw (adjoined-same list entries widths rows t table levels runs) left)
+    left-same n (builtSheet list entries widths rows K cells counts runs) (sumStep levelSum Ds K (tableOf cells counts runs))
+    (sym (meets-size w K cells counts runs e)) (sym (meets-levels w K cells counts runs e)) (sym (meets-runs w K cells counts runs e)) table levels answer table′ levels′
+    (rw (adjoined-same list entries widths rows t cells counts runs) left)
 
 -- M is the rows of the first matrix
 pub rows-first : (list numbers : List ℕ) → 0 < length numbers → rowsOf (matricesAt list numbers) ≡ matrixAt list (getD numbers 0 0) .rows

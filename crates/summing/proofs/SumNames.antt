@@ -169,20 +169,21 @@ module _ {list : List ℕ} (readable : Readable list) (at n : ℕ) (S : Table) (
 
   -- not every number names a matrix
   pub left-unnamed : SumOperands list at → false ≡ allOf (λ d. ltb 0 (matrixAt list d .rows)) (matrixNumbers list at)
-      → Left (laterIn list n S 3 at) (Refused (StepNotAllowed n)) table levels
+      → Left (laterIn list n S 3 at) table levels (Refused (StepNotAllowed n)) table levels
   unfolding later operation provided bind Left
-  left-unnamed stand fails = rw (later-is, all-named readable (matrixNumbers list at) (stand .numbered), ← fails) refl
+  left-unnamed stand fails = rw (later-is, all-named readable (matrixNumbers list at) (stand .numbered), ← fails) (refl, refl, refl)
 
   -- k names no table
   pub left-unadjoined : SumOperands list at → true ≡ allOf (λ d. ltb 0 (matrixAt list d .rows)) (matrixNumbers list at)
       → adjoinedNamed (readable .order) (adjoinedNumber list at) ≡ none
-      → Left (laterIn list n S 3 at) (Refused (StepNotAllowed n)) table levels
+      → Left (laterIn list n S 3 at) table levels (Refused (StepNotAllowed n)) table levels
   unfolding later operation provided bind Left
-  left-unadjoined stand holds missing = rw (later-is, all-named readable (matrixNumbers list at) (stand .numbered), ← holds, missing) refl
+  left-unadjoined stand holds missing = rw (later-is, all-named readable (matrixNumbers list at) (stand .numbered), ← holds, missing) (refl, refl, refl)
 
   -- all are there
   pub left-named : SumOperands list at → true ≡ allOf (λ d. ltb 0 (matrixAt list d .rows)) (matrixNumbers list at)
       → (k : Option Table) → adjoinedNamed (readable .order) (adjoinedNumber list at) ≡ some k
-      → (answer : Answer) → Left (operate n S (sum (matricesAt list (matrixNumbers list at)) k)) answer table levels → Left (laterIn list n S 3 at) answer table levels
+      → (answer : Answer) (table′ levels′ : List ℕ) → Left (operate n S (sum (matricesAt list (matrixNumbers list at)) k)) table levels answer table′ levels′
+      → Left (laterIn list n S 3 at) table levels answer table′ levels′
   unfolding later operation provided bind
-  left-named stand holds k found answer left = rw (later-is, all-named readable (matrixNumbers list at) (stand .numbered), ← holds, found) left
+  left-named stand holds k found answer table′ levels′ left = rw (later-is, all-named readable (matrixNumbers list at) (stand .numbered), ← holds, found) left

@@ -106,19 +106,19 @@ module _ {list entries widths : List ℕ} {rows : ℕ} (K : Table) {size : Size}
 -- ---- question 8
 
 module _ (n : ℕ) (S : Table) (table levels : List ℕ) {runs many : ℕ} (e : runs ≡ S .runs) (f : many ≡ columns S) where
-  pub left-small : runs ≤ 512 → many ≤ 128 → Holds S table levels → Left (sized n S) (Filled runs many) table levels
+  pub left-small : runs ≤ 512 → many ≤ 128 → {table′ levels′ : List ℕ} → Holds S table′ levels′ → Left (sized n S) table levels (Filled runs many) table′ levels′
   unfolding sized Left
   left-small h k holds =
       let small : SmallEnough S = record { runs-most = rw (← e) h; columns-most = rw (← f) k } in
       rw (← true-is (smallEnough S) (size-decides S .1 small)) (ap₂ Filled e f, holds)
 
-  pub left-large : (512 < runs) ⊎ (128 < many) → Left (sized n S) (Refused (TooLarge n runs many)) table levels
+  pub left-large : (512 < runs) ⊎ (128 < many) → Left (sized n S) table levels (Refused (TooLarge n runs many)) table levels
   unfolding sized Left
   left-large large =
       let most : SmallEnough S → ⊥ =
       λ small. ⊎-elim (λ (h : 512 < runs). omega (arith, small .runs-most)) (λ (h : 128 < many). omega (arith, small .columns-most)) large
       in
-      rw (← false-is (smallEnough S) (λ t. most (size-decides S .0 t))) (ap₂ (λ (x y : ℕ). Refused (TooLarge n x y)) e f)
+      rw (← false-is (smallEnough S) (λ t. most (size-decides S .0 t))) (ap₂ (λ (x y : ℕ). Refused (TooLarge n x y)) e f, refl, refl)
 
 module _ (list entries widths : List ℕ) (rows : ℕ) (K : Table) (table levels : List ℕ) (runs : ℕ) where
   pub built-columns : {summed adjoined : ℕ} → summed ≡ length (summedLevels widths levels) → adjoined ≡ columns K
@@ -128,26 +128,26 @@ module _ (list entries widths : List ℕ) (rows : ℕ) (K : Table) (table levels
 
 -- sheets of one size, with the same runs and level counts in bytes, are left alike
 module _ (n : ℕ) (A B : Table) (same-size : A .runs ≡ B .runs) (same-levels : A .levels ≡ B .levels) (same-runs : runsOf A ≡ runsOf B)
-    (answer : Answer) (table levels : List ℕ) where
+    (table levels : List ℕ) (answer : Answer) (table′ levels′ : List ℕ) where
   same-columns : columns A ≡ columns B
   same-columns = ap length same-levels
 
-  left-branch : (b : Bool) → Left (cond b (filled A) (refused (TooLarge n (A .runs) (columns A)))) answer table levels
-      → Left (cond b (filled B) (refused (TooLarge n (B .runs) (columns B)))) answer table levels
+  left-branch : (b : Bool) → Left (cond b (filled A) (refused (TooLarge n (A .runs) (columns A)))) table levels answer table′ levels′
+      → Left (cond b (filled B) (refused (TooLarge n (B .runs) (columns B)))) table levels answer table′ levels′
   unfolding Left
   left-branch true left = (
     left .0 ∙ ap₂ Filled same-size same-columns,
     record {
-      runs-first = left .1 .runs-first ∙ ap (padded (length table)) same-runs;
-      levels-first = left .1 .levels-first ∙ ap (padded (length levels)) same-levels;
+      runs-first = left .1 .runs-first ∙ ap (padded (length table′)) same-runs;
+      levels-first = left .1 .levels-first ∙ ap (padded (length levels′)) same-levels;
     },
   )
-  left-branch false left = left ∙ ap₂ (λ (x y : ℕ). Refused (TooLarge n x y)) same-size same-columns
+  left-branch false left = (left .0 ∙ ap₂ (λ (x y : ℕ). Refused (TooLarge n x y)) same-size same-columns, left .1, left .2)
 
   same-test : smallEnough A ≡ smallEnough B
   unfolding smallEnough
   same-test = ap₂ (λ (x y : ℕ). leb x 512 && leb y 128) same-size same-columns
 
-  pub left-same : Left (sized n A) answer table levels → Left (sized n B) answer table levels
+  pub left-same : Left (sized n A) table levels answer table′ levels′ → Left (sized n B) table levels answer table′ levels′
   unfolding sized
   left-same left = rw same-test at (left-branch (smallEnough A) left)

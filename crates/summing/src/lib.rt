@@ -98,7 +98,7 @@ fn sized_sum(
     requires { ⌜ Ready (now list) size (now table) (now levels) (now scratch) ⌝ }
     requires { ⌜ EntriesStand (now list) rows (now entries) (now widths) × (rows ≤ 512) ⌝ }
     requires { ⌜ Legible (now list) k × Adjoins (tableIn (now list) k) rows × (columnsOf (tableIn (now list) k) ≤ 128) ⌝ }
-    ensures { λ r. ⌜ Left (sized number (nextSheet (now (list .entry)) (now (entries .entry)) (now (widths .entry)) rows k size (now (table .entry)) (now (levels .entry)))) r (now (table .exit)) (now (levels .exit)) ⌝ }
+    ensures { λ r. ⌜ Left (sized number (nextSheet (now (list .entry)) (now (entries .entry)) (now (widths .entry)) rows k size (now (table .entry)) (now (levels .entry)))) (now (table .entry)) (now (levels .entry)) r (now (table .exit)) (now (levels .exit)) ⌝ }
     ensures { λ r. ⌜ Zeros (now (scratch .exit)) ⌝ }
 {
     let runs = size.runs * rows;
@@ -129,7 +129,7 @@ fn fitting_sum(
     requires { ⌜ Ready (now list) size (now table) (now levels) (now scratch) ⌝ }
     requires { ⌜ (0 < length (now ds)) × (0 < matrixAt (now list) (getD (now ds) 0 0) .rows) ⌝ }
     requires { ⌜ Legible (now list) k × (columnsOf (tableIn (now list) k) ≤ 128) ⌝ }
-    ensures { λ r. ⌜ Left (operate number (sheetIn (now (table .entry)) (now (levels .entry)) size) (SUM (matricesAt (now (list .entry)) (now (ds .entry))) (someTable (now (list .entry)) k))) r (now (table .exit)) (now (levels .exit)) ⌝ }
+    ensures { λ r. ⌜ Left (operate number (sheetIn (now (table .entry)) (now (levels .entry)) size) (SUM (matricesAt (now (list .entry)) (now (ds .entry))) (someTable (now (list .entry)) k))) (now (table .entry)) (now (levels .entry)) r (now (table .exit)) (now (levels .exit)) ⌝ }
     ensures { λ r. ⌜ Zeros (now (scratch .exit)) ⌝ }
 {
     let first = matrix_named(list, ds[0] as usize);
@@ -166,7 +166,7 @@ pub fn sum(
 ) -> Answer
     requires { ⌜ Stands (now list) 3 at ⌝ }
     requires { ⌜ Ready (now list) size (now table) (now levels) (now scratch) ⌝ }
-    ensures { λ r. ⌜ Left (laterIn (now (list .entry)) number (sheetIn (now (table .entry)) (now (levels .entry)) size) 3 at) r (now (table .exit)) (now (levels .exit)) ⌝ }
+    ensures { λ r. ⌜ Left (laterIn (now (list .entry)) number (sheetIn (now (table .entry)) (now (levels .entry)) size) 3 at) (now (table .entry)) (now (levels .entry)) r (now (table .exit)) (now (levels .exit)) ⌝ }
     ensures { λ r. ⌜ Zeros (now (scratch .exit)) ⌝ }
 {
     let not_allowed = Answer::Refused(Refusal::StepNotAllowed { step: number });

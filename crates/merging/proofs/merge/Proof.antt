@@ -61,7 +61,7 @@ same-length c = search needs
 returns : tie.Need-returns
 returns c =
     let start = c .before .before .before .before .before .before .before .before .before .before .before in
-    (merge-refused (start .pre .0) (start .pre .1) _ (sym (not-true _ (c .if1 .taken)) ∙ c .before .before .assign-roles .ensures .0) _ _, start .pre .1 .scratch-clear)
+    (merge-refused (start .pre .0) (start .pre .1) _ (sym (not-true _ (c .if1 .taken)) ∙ c .before .before .assign-roles .ensures .0), start .pre .1 .scratch-clear)
 
 slice-reshare-prefix-wrong-member : tie.Need-slice-reshare-prefix-wrong-member
 slice-reshare-prefix-wrong-member c = search needs
@@ -106,7 +106,7 @@ returns-2 : tie.Need-returns-2
 returns-2 c =
     let start = c .before .before .before .before .before .before .before .before .before .before .before .before .before .before .before .before .before in (
       merge-wrong (start .pre .0) (start .pre .1) (sym (not-false _ (c .before .before .before .before .before .before .if1 .left)) ∙ c .before .before .before .before .before .before .before .before .assign-roles .ensures .0) _
-          (sym (c .before .fault .given .1) ∙ c .before .before .before .wrong-member .ensures) _ _,
+          (sym (c .before .fault .given .1) ∙ c .before .before .before .wrong-member .ensures),
       start .pre .1 .scratch-clear,
     )
 

@@ -44,7 +44,7 @@ unfolding Left
 returns c =
     let start = c .before .before .before .before .before .before .before .before in
     let ready = start .pre .1 in
-    rw (none-named (ready .readable) (start .pre .0) _ (c .before .before .table-named .ensures) _ _ (c .enum-told .given .1)) (refl, ready .scratch-clear)
+    rw (none-named (ready .readable) (start .pre .0) _ (c .before .before .table-named .ensures) _ _ (c .enum-told .given .1)) ((refl, refl, refl), ready .scratch-clear)
 
 mul-c : tie.Need-mul-c
 mul-c c = let start = c .before .before .before .before .before .before .before in let within = operands-within (start .pre .1 .readable) (start .pre .0) in search needs
@@ -90,7 +90,7 @@ unfolding Left
 returns-2 c =
     let start = c .before .before .before .before .before .before .before .before .before .before .before in
     let ready = start .pre .1 in
-    rw (unfit (ready .readable) (start .pre .0) _ (c .before .before .before .before .before .table-named .ensures) _ _ (some-named _ _ (c .before .before .before .before .match .keys2)) (asked (c .before) ∙ not-true _ (c .if1 .taken))) (refl, ready .scratch-clear)
+    rw (unfit (ready .readable) (start .pre .0) _ (c .before .before .before .before .before .table-named .ensures) _ _ (some-named _ _ (c .before .before .before .before .match .keys2)) (asked (c .before) ∙ not-true _ (c .if1 .taken))) ((refl, refl, refl), ready .scratch-clear)
 
 fit : (c : tie.Else1) → test (c .before .before .before .before .before .before .before .before .before .before .before) (c .before .before .before .before .before .table-named .result) ≡ true
 fit c = asked (c .before) ∙ not-false _ (c .if1 .left)
@@ -121,7 +121,7 @@ returns-3 c =
     let fits = parts (c .before .before) in
     let more = rw (c .before .column-count .ensures) at (c .if2 .taken) in
     rw (over-large (ready .readable) (start .pre .0) _ (c .before .before .before .before .before .before .before .table-named .ensures) _ _ (some-named _ _ (c .before .before .before .before .before .before .match .keys2)) (fit (c .before .before)) (ready .small .runs-most) (rw (next-columns ready _ _ fits) more))
-    (large-answer ready _ _ fits (c .before .column-count .ensures) _, ready .scratch-clear)
+    ((large-answer ready _ _ fits (c .before .column-count .ensures) _, refl, refl), ready .scratch-clear)
 
 split-column-requires : tie.Need-split-column-requires
 split-column-requires c κs =

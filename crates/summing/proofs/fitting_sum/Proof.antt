@@ -132,9 +132,9 @@ returns-2 c =
     let start = start-of first in
     let a = start .args in
     let made = c .before .before .before .before .before .before .sized-sum in (
-      left-fits (matrices-of start) (adjoined-of start) (sheet-of start) _ (equal-rows first) (a .number) _ _ (made .result)
+      left-fits (matrices-of start) (adjoined-of start) (sheet-of start) _ (equal-rows first) (a .number) _ _ (made .result) _ _
           (sym (not-false _ (done .if1 .left)) ∙ done .before .before .before .parts-fit .ensures .0)
-          (meets-left (served done) (equal-rows first) (a .k) (a .table .now) (take (a .size .columns) (a .levels .now)) (a .size .runs) (a .number) (made .result) _ _ (made .ensures .0)),
+          (meets-left (served done) (equal-rows first) (a .k) (a .table .now) (take (a .size .columns) (a .levels .now)) (a .size .runs) (a .number) _ _ (made .result) _ _ (made .ensures .0)),
       made .ensures .1,
     )
 

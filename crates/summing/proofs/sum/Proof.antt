@@ -141,7 +141,7 @@ returns-3 c =
       left-named readable (start .args .at) (start .args .number) (sheet-of start) _ _ (operands start) (named (c .before .before .before .before .before .before .before .before .before .before .before .before .before .before))
           (someTable (start .args .list .now) (found .result))
           (adjoined-found readable _ (either (c .before .before .before .before .before .before .before .before .before .before .before)) ∙ ap (λ t. some (someTable (start .args .list .now) t)) (sym (found .ensures)))
-          (made .result) (rw part-same at (made .ensures .0)),
+          (made .result) _ _ (rw part-same at (made .ensures .0)),
       made .ensures .1,
     )
 

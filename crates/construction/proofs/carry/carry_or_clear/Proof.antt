@@ -31,7 +31,7 @@ same-length-3 c = search needs
 returns : tie.Need-returns
 returns c =
     let done = c .before .before .before .before .before .before .before .before .before in
-    (settled-filled _ _ _ (c .before .runs .given .1) (done .carry-out .ensures .0), done .carry-out .ensures .1)
+    (settled-filled _ _ _ _ _ (c .before .runs .given .1) (done .carry-out .ensures .0), done .carry-out .ensures .1)
 
 same-length-4 : tie.Need-same-length-4
 same-length-4 c = search needs
@@ -48,7 +48,7 @@ returns-2 c =
     let first = second .before .before .before .before in
     let told = first .before .before .before in
     let done = told .before .before .before .before .before .before .before .before in
-    (settled-refused _ _ _ _ (told .why .given .1) (done .carry-out .ensures .0) (first .clear .ensures) (second .clear2 .ensures), done .carry-out .ensures .1)
+    (settled-refused _ _ _ _ _ _ (told .why .given .1) (done .carry-out .ensures .0) (first .clear .ensures) (second .clear2 .ensures), done .carry-out .ensures .1)
 
 pub carry-or-clear-spec : {M : Type 1} → statement M
 carry-or-clear-spec =

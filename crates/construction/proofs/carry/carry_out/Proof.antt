@@ -1,5 +1,5 @@
--- `construction::carry::carry_out` meets its contract. The invariant: a sheet is in the buffers from which the steps that are left come to what
--- all steps come to.
+-- `construction::carry::carry_out` meets its contract. The invariant: the sheet in hand is in the buffers, and from it the steps that are left come
+-- to what all steps come to, and end with the sheet with which all steps end.
 use mathlib.Core.Path.{_≡_, _∙_}
 use mathlib.Core.List.{List}
 use Prim.Native.Nat.{ℕ, _+_, _-_, _≤_}
@@ -8,9 +8,8 @@ use borrow.Author.Needs.{needs}
 use lib.ListN.{length}
 use Rattle.order.specs.Grammar.{readOrder}
 use Rattle.order.specs.Places.{stepCount}
-use Rattle.construction.specs.Carry.{Underway}
 use Rattle.layout.specs.declared.Size.{Size}
-use Rattle.construction.proofs.Carrying.{underway-start, underway-numbered, underway-prepared, steps-counted, steps-few, step-refused, step-filled, none-left}
+use Rattle.construction.proofs.Carrying.{Underway, underway-start, underway-numbered, underway-prepared, steps-counted, steps-few, step-refused, step-filled, none-left}
 use Rattle.construction.proofs.carry.carry_out.Statement.{statement}
 use Rattle.construction.proofs.carry.carry_out.Tie as tie
 
@@ -62,7 +61,8 @@ returns : tie.Need-returns Inv-loop μ-loop
 returns c =
     let done = c .before .before .before .before .before .before .before .before .before in
     let inv = done .before .before .before .before .before .loop .inv in (
-      step-refused (inv .0) (more-left (inv .0) (inv .1) (done .before .before .before .before .loop-test .taken)) _ _ _ (c .before .why .given .1) (done .proceed .ensures .0),
+      rw (← inv .2, ← inv .3)
+          (step-refused (inv .0) (more-left (inv .0) (inv .1) (omega (arith, done .before .before .before .before .loop-test .taken))) _ _ _ (c .before .why .given .1) (done .proceed .ensures .0)),
       done .proceed .ensures .1,
     )
 
@@ -80,7 +80,7 @@ loop-again c =
     let done = c .before .before .before .before .before .before .before .before .before in
     let kept = done .proceed .kept .1 .1 .1 in
     let inv = done .before .before .before .before .before .loop .inv in (
-      step-filled (inv .0) (more-left (inv .0) (inv .1) (done .before .before .before .before .loop-test .taken)) _ _ _ _ _ (c .before .runs .given .1) (done .proceed .ensures .0) (kept .0) (kept .1 .0) (kept .1 .1 .0) (done .proceed .ensures .1),
+      step-filled (inv .0) (more-left (inv .0) (inv .1) (omega (arith, done .before .before .before .before .loop-test .taken))) _ _ _ _ _ (c .before .runs .given .1) (done .proceed .ensures .0) (kept .0) (kept .1 .0) (kept .1 .1 .0) (done .proceed .ensures .1),
       inv .1,
       kept .0 ∙ inv .2,
       kept .1 .0 ∙ inv .3,
@@ -99,7 +99,7 @@ same-length-6 c = search needs
 returns-2 : tie.Need-returns-2 Inv-loop μ-loop
 returns-2 c =
     let inv = c .before .loop .inv in
-    (none-left (inv .0) (omega (arith, inv .1, steps-counted (inv .0 .passing .readable), c .loop-test .left)), inv .0 .clear)
+    (none-left (inv .0) (omega (arith, inv .1, steps-counted (inv .0 .passing .readable), c .loop-test .left)) _ _, inv .0 .clear)
 
 pub carry-out-spec : {M : Type 1} → statement M
 carry-out-spec =

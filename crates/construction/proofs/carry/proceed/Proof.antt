@@ -1,6 +1,6 @@
 -- `construction::carry::proceed` meets its contract: the step of that number of the list is carried out on the sheet in hand.
 use borrow.Author.Needs.{needs}
-use mathlib.Core.Path.{sym, _∙_}
+use mathlib.Core.Path.{refl, sym, _∙_}
 use Rattle.layout.specs.Step.{Left}
 use Rattle.construction.proofs.Carrying.{proceed-found, proceed-missing}
 use Rattle.construction.proofs.carry.proceed.Statement.{statement}
@@ -45,7 +45,7 @@ returns-2 : tie.Need-returns-2
 unfolding Left
 returns-2 c =
     let start = c .before .before .before .before .before .before .before in (
-      rw (proceed-missing (start .pre .1 .readable) _ (start .pre .0) _ (sym (c .before .before .step-at .ensures) ∙ c .enum-told .given .1)),
+      rw (proceed-missing (start .pre .1 .readable) _ (start .pre .0) _ (sym (c .before .before .step-at .ensures) ∙ c .enum-told .given .1)) (refl, refl, refl),
       start .pre .1 .scratch-clear,
     )
 

@@ -1,5 +1,5 @@
 -- `construction::carry::step` meets its contract: the kind that is allowed chooses the step that is carried out, any other is refused.
-use mathlib.Core.Path.{_≡_, sym, _∙_}
+use mathlib.Core.Path.{_≡_, refl, sym, _∙_}
 use mathlib.Core.Logic.{_≢_}
 use mathlib.Core.Bool.{true}
 use Prim.Native.Nat.{_≤_}
@@ -32,7 +32,7 @@ returns : tie.Need-returns
 unfolding Left
 returns c =
     let start = c .before .before .before .before .before .before in
-    (rw (numbered-refused _ _ _ _ _ _ _ (start .pre .1 .readable) (start .pre .0) (sym (c .before .allowed .ensures) ∙ not-true _ (c .if1 .taken))), start .pre .1 .scratch-clear)
+    (rw (numbered-refused _ _ _ _ _ _ _ (start .pre .1 .readable) (start .pre .0) (sym (c .before .allowed .ensures) ∙ not-true _ (c .if1 .taken))) (refl, refl, refl), start .pre .1 .scratch-clear)
 
 take-requires : tie.Need-take-requires
 take-requires c κs =

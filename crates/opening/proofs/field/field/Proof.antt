@@ -1,6 +1,6 @@
 -- `field` meets its contract: the look-up of the ingredient finds a generator, whose sheet is filled, or the step is refused.
 -- Assumes nothing.
-use mathlib.Core.Path.{_≡_, sym, _∙_}
+use mathlib.Core.Path.{_≡_, refl, sym, _∙_}
 use native.Mathlib.Omega.{arith}
 use lib.ListN.{getD}
 use Rattle.order.specs.Grammar.{readOrder}
@@ -75,7 +75,7 @@ returns-2 : tie.Need-returns-2
 unfolding Left
 returns-2 c =
     let pre = c .before .before .before .before .before .before .pre in
-    rw (field-refused (pre .1 .0) (pre .0) _ (c .before .ingredient-at .ensures) (c .match .keys2))
+    rw (field-refused (pre .1 .0) (pre .0) _ (c .before .ingredient-at .ensures) (c .match .keys2)) (refl, refl, refl)
 
 pub field-spec : {M : Type 1} → statement M
 field-spec =

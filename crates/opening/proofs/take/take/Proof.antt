@@ -1,5 +1,5 @@
 -- `opening::take::take` meets its contract: the buffers are clear, and the table that the number names is put into them.
-use mathlib.Core.Path.{ap₂}
+use mathlib.Core.Path.{refl, ap₂}
 use native.Mathlib.Nat.{le-trans}
 use native.Mathlib.Omega.{arith}
 use borrow.Author.Needs.{needs}
@@ -30,7 +30,7 @@ returns : tie.Need-returns
 unfolding Left
 returns c =
     let start = c .before .before .before .before .before .before .before in
-    rw (none-taken (start .pre .1 .0) (start .pre .0) _ (c .before .before .table-named .ensures) (c .enum-told .given .1))
+    rw (none-taken (start .pre .1 .0) (start .pre .0) _ (c .before .before .table-named .ensures) (c .enum-told .given .1)) (refl, refl, refl)
 
 put-runs-requires : tie.Need-put-runs-requires
 put-runs-requires c κs =
