@@ -11,7 +11,7 @@ use lib.ListN.{getElem?}
 use Rattle.counting.specs.Table.{Table}
 use Rattle.order.specs.Order.{Order, Step, All}
 use Rattle.order.specs.Grammar.{readOrder}
-use Rattle.order.specs.Places.{orNone, operandsOf}
+use Rattle.places.specs.Places.{orNone, operandsOf}
 use Rattle.sheets.specs.Steps.{Outcome, filled, refused, provided, firstStep, laterStep, allSteps}
 use Rattle.sheets.specs.Outcome.{ingredientsRefusal, unless}
 use Rattle.sheets.specs.Fillable.{MeetsDefinition}

@@ -1,4 +1,4 @@
--- `order::range::first_high` meets its contract. The invariant: the rows that are left stand within the list, and the search in them gives the
+-- `entry_range::first_high` meets its contract. The invariant: the rows that are left stand within the list, and the search in them gives the
 -- answer of the whole.
 use mathlib.Core.Path.{_≡_, refl, sym, _∙_}
 use Prim.Native.Nat.{_+_, _*_, _≤_}

@@ -1,4 +1,4 @@
--- `order::range::first_high_in_row` meets its contract. The invariant: the search from column on gives the answer of the whole row.
+-- `entry_range::first_high_in_row` meets its contract. The invariant: the search from column on gives the answer of the whole row.
 use mathlib.Core.Path.{_≡_, sym, _∙_}
 use Prim.Native.Nat.{_+_, _-_, _≤_}
 use native.Mathlib.Omega.{arith}

@@ -1,4 +1,4 @@
--- `order::range::first_not_below` meets its contract: it hands over so many times the same limit.
+-- `entry_range::first_not_below` meets its contract: it hands over so many times the same limit.
 use mathlib.Core.Path.{sym, _∙_, ap}
 use denote.Ref.{now}
 use borrow.Author.Needs.{needs}

@@ -1,4 +1,4 @@
--- `order::first_out_of_range` meets its contract: the walk over the ingredients of a list that reads finds what the definition says.
+-- `entry_range::first_out_of_range` meets its contract: the walk over the ingredients of a list that reads finds what the definition says.
 use mathlib.Core.Path.{sym, _∙_}
 use denote.Ref.{now}
 use borrow.Author.Needs.{needs}

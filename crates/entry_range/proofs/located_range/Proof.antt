@@ -1,4 +1,4 @@
--- `order::range::located_range` meets its contract: each kind hands its limits and its places to the search, as in the definition.
+-- `entry_range::located_range` meets its contract: each kind hands its limits and its places to the search, as in the definition.
 use native.Mathlib.Omega.{arith}
 use denote.Ref.{now}
 use borrow.Author.Needs.{needs}

@@ -1,4 +1,4 @@
--- `order::range::row_in_range` meets its contract. The invariant: the numbers so far pass and those from column on pass exactly where all of them do.
+-- `entry_range::row_in_range` meets its contract. The invariant: the numbers so far pass and those from column on pass exactly where all of them do.
 use mathlib.Core.Path.{_≡_, sym, _∙_}
 use mathlib.Core.Bool.{_&&_, and-true}
 use Prim.Native.Nat.{_+_, _-_, _≤_}

@@ -1,4 +1,4 @@
--- `order::range::scan` meets its contract. The invariant: the walk from the cursor on gives the answer of the whole. An ingredient that was
+-- `entry_range::scan` meets its contract. The invariant: the walk from the cursor on gives the answer of the whole. An ingredient that was
 -- read stands in the list, so what the search finds in the list is what the definition finds in the ingredient.
 use mathlib.Core.Path.{_≡_, refl, sym, _∙_}
 use mathlib.Core.List.{List}

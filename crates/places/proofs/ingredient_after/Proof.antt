@@ -1,4 +1,4 @@
--- `order::places::ingredient_after` meets its contract: k ingredients are passed over, and the next one is read.
+-- `places::ingredient_after` meets its contract: k ingredients are passed over, and the next one is read.
 use mathlib.Core.Path.{sym, _∙_}
 use denote.Ref.{now}
 use Rattle.order.specs.Grammar.{readIngredient}

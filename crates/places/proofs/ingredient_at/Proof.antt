@@ -1,4 +1,4 @@
--- `order::places::ingredient_at` meets its contract: a number past the last has no ingredient, and any other stands after those before it.
+-- `places::ingredient_at` meets its contract: a number past the last has no ingredient, and any other stands after those before it.
 use mathlib.Core.Path.{_≡_, sym, _∙_}
 use native.Mathlib.Omega.{arith}
 use denote.Ref.{now}

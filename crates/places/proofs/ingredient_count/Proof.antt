@@ -1,4 +1,4 @@
--- `order::places::ingredient_count` meets its contract, from the start of the ingredients.
+-- `places::ingredient_count` meets its contract, from the start of the ingredients.
 use mathlib.Core.Path.{sym, _∙_}
 use denote.Ref.{now}
 use Rattle.order.specs.Grammar.{readOrder}

@@ -1,4 +1,4 @@
--- `order::places::ingredients_start` meets its contract: a list that reads begins with the number of its ingredients.
+-- `places::ingredients_start` meets its contract: a list that reads begins with the number of its ingredients.
 use mathlib.Core.Path.{sym, _∙_}
 use denote.Ref.{now}
 use borrow.Author.Needs.{needs}

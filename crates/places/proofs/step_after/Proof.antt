@@ -1,4 +1,4 @@
--- `order::places::step_after` meets its contract: k steps are passed over, and the next one is read.
+-- `places::step_after` meets its contract: k steps are passed over, and the next one is read.
 use mathlib.Core.Path.{sym, _∙_}
 use denote.Ref.{now}
 use Rattle.order.specs.Grammar.{readStep}

@@ -1,4 +1,4 @@
--- `order::places::step_at` meets its contract: a number past the last has no step, and any other stands after those before it.
+-- `places::step_at` meets its contract: a number past the last has no step, and any other stands after those before it.
 use mathlib.Core.Path.{_≡_, sym, _∙_}
 use native.Mathlib.Omega.{arith}
 use denote.Ref.{now}

@@ -1,4 +1,4 @@
--- `order::places::step_count` meets its contract, from the start of the steps.
+-- `places::step_count` meets its contract, from the start of the steps.
 use mathlib.Core.Path.{sym, _∙_}
 use denote.Ref.{now}
 use Rattle.order.specs.Grammar.{readOrder}

@@ -1,4 +1,4 @@
--- `order::places::steps_start` meets its contract: the number of steps stands after the ingredients.
+-- `places::steps_start` meets its contract: the number of steps stands after the ingredients.
 use mathlib.Core.Path.{sym, _∙_}
 use denote.Ref.{now}
 use borrow.Author.Needs.{needs}

@@ -1,4 +1,4 @@
--- `order::read` meets its contract: at each way out the length, the ingredients, the steps and the end say what the definition gives.
+-- `reading::read` meets its contract: at each way out the length, the ingredients, the steps and the end say what the definition gives.
 use mathlib.Core.Path.{_≡_, sym, _∙_}
 use denote.Ref.{now}
 use Rattle.order.specs.Grammar.{counted, readIngredient, readStep}

@@ -7,7 +7,7 @@ use native.Mathlib.Omega.{arith}
 use borrow.Author.Needs.{needs}
 use lib.ListN.{length}
 use Rattle.order.specs.Grammar.{readOrder}
-use Rattle.order.specs.Places.{stepCount}
+use Rattle.places.specs.Places.{stepCount}
 use Rattle.layout.specs.declared.Size.{Size}
 use Rattle.construction.proofs.Carrying.{Underway, underway-start, underway-numbered, underway-prepared, steps-counted, steps-few, step-refused, step-filled, none-left}
 use Rattle.construction.proofs.carry.carry_out.Statement.{statement}

@@ -1,4 +1,4 @@
--- `order::ingredients::counted_ingredients` meets its contract: the number is read, and then that many ingredients.
+-- `reading::ingredients::counted_ingredients` meets its contract: the number is read, and then that many ingredients.
 use mathlib.Core.Path.{sym, _∙_}
 use Rattle.order.specs.Answers.{walkOf}
 use Rattle.order.proofs.Answers.{number-go, number-stops}

@@ -1,4 +1,4 @@
--- `order::ingredients::ingredients` meets its contract. The invariant: reading what is left from the cursor on gives the answer of the whole.
+-- `reading::ingredients::ingredients` meets its contract. The invariant: reading what is left from the cursor on gives the answer of the whole.
 use mathlib.Core.Path.{_≡_, refl, sym, _∙_}
 use denote.Ref.{now}
 use borrow.Author.Needs.{needs}

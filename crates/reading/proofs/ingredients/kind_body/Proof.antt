@@ -1,4 +1,4 @@
--- `order::ingredients::kind_body` meets its contract: the kind chooses the reader, as in the definition.
+-- `reading::ingredients::kind_body` meets its contract: the kind chooses the reader, as in the definition.
 use mathlib.Core.Path.{_≡_}
 use native.Mathlib.Omega.{arith}
 use Rattle.reading.proofs.ingredients.kind_body.Statement.{statement}

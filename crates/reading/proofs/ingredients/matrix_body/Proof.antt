@@ -1,4 +1,4 @@
--- `order::ingredients::matrix_body` meets its contract: at each way out the readers that came before gave what the code found.
+-- `reading::ingredients::matrix_body` meets its contract: at each way out the readers that came before gave what the code found.
 use mathlib.Core.Path.{_≡_, sym, _∙_}
 use native.Mathlib.Omega.{arith}
 use denote.Ref.{now}

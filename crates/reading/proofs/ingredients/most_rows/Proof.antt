@@ -1,4 +1,4 @@
--- `order::ingredients::most_rows` meets its contract: the test of the kind decides.
+-- `reading::ingredients::most_rows` meets its contract: the test of the kind decides.
 use borrow.Author.Tests.{eq-eqb, ne-eqb}
 use Rattle.reading.proofs.ingredients.most_rows.Statement.{statement}
 use Rattle.reading.proofs.ingredients.most_rows.Tie as tie

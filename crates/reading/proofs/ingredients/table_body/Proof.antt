@@ -1,4 +1,4 @@
--- `order::ingredients::table_body` meets its contract: at each way out the readers that came before gave what the code found.
+-- `reading::ingredients::table_body` meets its contract: at each way out the readers that came before gave what the code found.
 use native.Mathlib.Omega.{arith}
 use mathlib.Core.Path.{_≡_, sym, _∙_}
 use denote.Ref.{now}

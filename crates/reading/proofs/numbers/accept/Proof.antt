@@ -1,4 +1,4 @@
--- `order::numbers::accept` meets its contract: each way out has the tests of `allowed` decided.
+-- `reading::numbers::accept` meets its contract: each way out has the tests of `allowed` decided.
 use borrow.Author.Needs.{needs}
 use borrow.Author.Tests.{lt-ltb, le-ltb}
 use Rattle.order.specs.Answers.{numberOf}

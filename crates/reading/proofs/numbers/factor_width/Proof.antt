@@ -1,4 +1,4 @@
--- `order::numbers::factor_width` meets its contract, by the law that joins the number, its test and what is accepted.
+-- `reading::numbers::factor_width` meets its contract, by the law that joins the number, its test and what is accepted.
 use denote.Ref.{now}
 use Rattle.order.specs.Grammar.{factorWidth}
 use Rattle.order.proofs.Answers.{accepted}

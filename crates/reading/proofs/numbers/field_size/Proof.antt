@@ -1,4 +1,4 @@
--- `order::numbers::field_size` meets its contract, by the law that joins the number, its test and what is accepted.
+-- `reading::numbers::field_size` meets its contract, by the law that joins the number, its test and what is accepted.
 use denote.Ref.{now}
 use Rattle.order.specs.Grammar.{generatorField}
 use Rattle.order.proofs.Answers.{accepted}

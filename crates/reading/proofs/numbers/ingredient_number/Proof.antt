@@ -1,4 +1,4 @@
--- `order::numbers::ingredient_number` meets its contract, by the law that joins the number, its test and what is accepted.
+-- `reading::numbers::ingredient_number` meets its contract, by the law that joins the number, its test and what is accepted.
 use denote.Ref.{now}
 use Rattle.order.specs.Grammar.{ingredientNumber}
 use Rattle.order.proofs.Answers.{accepted}

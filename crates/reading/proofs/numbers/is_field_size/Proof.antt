@@ -1,4 +1,4 @@
--- `order::numbers::is_field_size` meets its contract: each way out has the parts of the test decided.
+-- `reading::numbers::is_field_size` meets its contract: each way out has the parts of the test decided.
 use borrow.Author.Tests.{le-leb, lt-leb, eq-eqb, ne-eqb}
 use native.Mathlib.Omega.{arith}
 use Rattle.order.proofs.Powers.{small-power}

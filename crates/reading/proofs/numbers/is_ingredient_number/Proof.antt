@@ -1,4 +1,4 @@
--- `order::numbers::is_ingredient_number` meets its contract: the first range decides, or else the second.
+-- `reading::numbers::is_ingredient_number` meets its contract: the first range decides, or else the second.
 use borrow.Author.Needs.{needs}
 use Rattle.reading.proofs.numbers.is_ingredient_number.Statement.{statement}
 use Rattle.reading.proofs.numbers.is_ingredient_number.Tie as tie

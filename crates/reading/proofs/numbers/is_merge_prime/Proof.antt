@@ -1,4 +1,4 @@
--- `order::numbers::is_merge_prime` meets its contract: each way out has the parts of the test decided.
+-- `reading::numbers::is_merge_prime` meets its contract: each way out has the parts of the test decided.
 use borrow.Author.Tests.{le-leb, lt-leb, eq-eqb, ne-eqb}
 use Rattle.reading.proofs.numbers.is_merge_prime.Statement.{statement}
 use Rattle.reading.proofs.numbers.is_merge_prime.Tie as tie

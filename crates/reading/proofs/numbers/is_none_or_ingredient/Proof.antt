@@ -1,4 +1,4 @@
--- `order::numbers::is_none_or_ingredient` meets its contract: 0 decides, or else the test of an ingredient number.
+-- `reading::numbers::is_none_or_ingredient` meets its contract: 0 decides, or else the test of an ingredient number.
 use borrow.Author.Tests.{eq-eqb, ne-eqb}
 use borrow.Author.Needs.{needs}
 use Rattle.reading.proofs.numbers.is_none_or_ingredient.Statement.{statement}

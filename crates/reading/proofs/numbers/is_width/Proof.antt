@@ -1,4 +1,4 @@
--- `order::numbers::is_width` meets its contract: each way out has the parts of the test decided; no u over 6 has s^u at most 64.
+-- `reading::numbers::is_width` meets its contract: each way out has the parts of the test decided; no u over 6 has s^u at most 64.
 use borrow.Author.Tests.{le-leb, lt-leb}
 use Rattle.order.proofs.Powers.{small-power, large-power}
 use native.Mathlib.Omega.{arith}

@@ -1,4 +1,4 @@
--- `order::numbers::none_or_ingredient` meets its contract, by the law that joins the number, its test and what is accepted.
+-- `reading::numbers::none_or_ingredient` meets its contract, by the law that joins the number, its test and what is accepted.
 use denote.Ref.{now}
 use Rattle.order.specs.Grammar.{noneOrIngredient}
 use Rattle.order.proofs.Answers.{accepted}

@@ -1,4 +1,4 @@
--- `order::numbers::peek` meets its contract: within the list it reads the number, and past the end the default is 0.
+-- `reading::numbers::peek` meets its contract: within the list it reads the number, and past the end the default is 0.
 use mathlib.Core.Path.{sym}
 use lib.ListN.{List·getD-eq-default}
 use denote.Ref.{now}

@@ -1,4 +1,4 @@
--- `order::numbers::skip` meets its contract: the numbers that remain decide the test of `numbers`.
+-- `reading::numbers::skip` meets its contract: the numbers that remain decide the test of `numbers`.
 use Prim.Native.Nat.{_-_, _≤_, _<_}
 use native.Mathlib.Omega.{arith}
 use lib.ListN.{length}

@@ -1,4 +1,4 @@
--- `order::numbers::widths` meets its contract. The invariant: reading what is left from the cursor on, with the sum so far added, gives the
+-- `reading::numbers::widths` meets its contract. The invariant: reading what is left from the cursor on, with the sum so far added, gives the
 -- answer of the whole; and each width is at most 6, so the sum stays small.
 use mathlib.Core.Path.{_≡_, sym, _∙_}
 use Prim.Native.Nat.{_+_, _*_, _≤_}

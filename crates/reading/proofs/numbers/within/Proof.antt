@@ -1,4 +1,4 @@
--- `order::numbers::within` meets its contract: each half of the test decides what `&&` gives.
+-- `reading::numbers::within` meets its contract: each half of the test decides what `&&` gives.
 use borrow.Author.Tests.{le-leb, lt-leb}
 use Rattle.reading.proofs.numbers.within.Statement.{statement}
 use Rattle.reading.proofs.numbers.within.Tie as tie

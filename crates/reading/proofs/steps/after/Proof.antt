@@ -1,4 +1,4 @@
--- `order::steps::after` meets its contract, by the cases of the number.
+-- `reading::steps::after` meets its contract, by the cases of the number.
 use borrow.Author.Needs.{needs}
 use Rattle.reading.proofs.steps.after.Statement.{statement}
 use Rattle.reading.proofs.steps.after.Tie as tie

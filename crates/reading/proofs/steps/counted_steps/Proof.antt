@@ -1,4 +1,4 @@
--- `order::steps::counted_steps` meets its contract: the number is read, and then that many steps.
+-- `reading::steps::counted_steps` meets its contract: the number is read, and then that many steps.
 use mathlib.Core.Path.{sym, _∙_}
 use Rattle.order.specs.Answers.{walkOf}
 use Rattle.order.proofs.Answers.{number-go, number-stops}

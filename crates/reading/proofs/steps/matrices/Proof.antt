@@ -1,4 +1,4 @@
--- `order::steps::matrices` meets its contract: the number is read, and then that many ingredient numbers.
+-- `reading::steps::matrices` meets its contract: the number is read, and then that many ingredient numbers.
 use mathlib.Core.Path.{sym, _∙_}
 use Rattle.order.specs.Answers.{walkOf}
 use Rattle.order.proofs.Answers.{number-go, number-stops}

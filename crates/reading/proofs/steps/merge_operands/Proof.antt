@@ -1,4 +1,4 @@
--- `order::steps::merge_operands` meets its contract: p is read, which is at most 7, and then p + 1 columns.
+-- `reading::steps::merge_operands` meets its contract: p is read, which is at most 7, and then p + 1 columns.
 use mathlib.Core.Path.{_≡_, sym, _∙_}
 use native.Mathlib.Omega.{arith}
 use denote.Ref.{now}

@@ -1,4 +1,4 @@
--- `order::steps::operands` meets its contract: the kind chooses the reader, as in the definition.
+-- `reading::steps::operands` meets its contract: the kind chooses the reader, as in the definition.
 use borrow.Author.Tests.{ne-eqb}
 use Rattle.order.specs.Order.{TAKE, FIELD}
 use Rattle.order.specs.Grammar.{readNaming}

@@ -1,4 +1,4 @@
--- `order::steps::split_operands` meets its contract: the column is read, and then the ingredient.
+-- `reading::steps::split_operands` meets its contract: the column is read, and then the ingredient.
 use mathlib.Core.Path.{sym, _∙_}
 use Rattle.order.specs.Order.{SPLIT}
 use Rattle.order.specs.Grammar.{readSplit}

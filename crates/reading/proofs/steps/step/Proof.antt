@@ -1,4 +1,4 @@
--- `order::steps::step` meets its contract: the kind is read, and then the operands of that kind.
+-- `reading::steps::step` meets its contract: the kind is read, and then the operands of that kind.
 use mathlib.Core.Path.{_≡_, sym, _∙_}
 use Prim.Native.Nat.{_+_}
 use denote.Ref.{now}

@@ -1,4 +1,4 @@
--- `order::steps::sum_operands` meets its contract: the matrices are read, and then the table or none.
+-- `reading::steps::sum_operands` meets its contract: the matrices are read, and then the table or none.
 use mathlib.Core.Path.{sym, _∙_}
 use Rattle.order.specs.Order.{SUM}
 use Rattle.order.specs.Grammar.{readSum}
