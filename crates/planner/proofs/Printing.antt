@@ -29,6 +29,7 @@ module _ (S : Table) (n m : ℕ) (small : SmallEnough S) (table-long : 65536 ≤
       let few : S .runs * columns S ≤ n = le-trans (cells-few (small .runs-most) (small .columns-most)) table-long in
       let narrow : columns S ≤ m = le-trans (small .columns-most) levels-long in
       record {
+        few = small .runs-most;
         narrow = small .columns-most;
         levels-there = omega (arith, padded-length m (S .levels) narrow);
         cells-there = omega (arith, runs-length S, padded-length n (runsOf S) (rw (runs-length S) few));

@@ -13,6 +13,7 @@ pub fitting : (runs columns : ℕ) {levels table : List ℕ} → (runs ≤ 512) 
     → TableInBuffers runs columns levels table
 fitting runs columns few rooms =
     record {
+      few = few .0;
       narrow = few .1;
       levels-there = omega (arith, few .1, rooms .0);
       cells-there = omega (arith, cells-few runs columns (few .0) (few .1), rooms .1);

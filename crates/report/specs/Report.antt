@@ -18,6 +18,15 @@ use Rattle.sheets.specs.declared.answer.Answer.the-variants.{Filled, Refused}
 unfoldable pub refusalLine : Refusal → List ℕ
 refusalLine why = refusedLine (numbered why)
 
+-- What is printed of an answer, with the level list and the run table that came with it: of a filled order "N m", the level counts and the runs.
+unfoldable pub answerPrinted : Answer → List ℕ → List ℕ → List ℕ
+answerPrinted (Filled runs columns) levels cells = printed runs (take columns levels) cells
+answerPrinted (Refused why) levels cells = refusalLine why
+
+-- Room for any answer: 514 lines (the size, the level counts and 512 runs) of at most 513 bytes.
+abbrev pub answerRoom : ℕ
+answerRoom = 263682
+
 -- The lines of an answer, with the level list and the run table that came with it: of a filled order "N m", the level counts and the runs.
 unfoldable pub answerLines : Answer → List ℕ → List ℕ → List (List ℕ)
 answerLines (Filled runs columns) levels cells = printedLines runs (take columns levels) cells
@@ -28,8 +37,9 @@ unfoldable pub lineCount : Answer → ℕ
 lineCount (Filled runs columns) = runs + 2
 lineCount (Refused why) = 1
 
--- A table that lies in its buffers and whose lines are at most 512 bytes long.
-pub record TableInBuffers (runs columns : ℕ) (levels cells : List ℕ) : Type 0 where
+-- A table within the limits that lies in its buffers.
+pub record Fitting (runs columns : ℕ) (levels cells : List ℕ) : Type 0 where
+  pub few : runs ≤ 512
   pub narrow : columns ≤ 128
   pub levels-there : columns ≤ length levels
   pub cells-there : runs * columns ≤ length cells

@@ -2,11 +2,11 @@
 // a program only has to read, to plan and to write.
 ghost use mathlib.Core.Path.{_≡_};
 ghost use mathlib.Core.List.{[]};
-ghost use Prim.Native.Nat.{_+_, _≤_, _<_};
+ghost use Prim.Native.Nat.{_+_, _*_, _≤_, _<_};
 ghost use lib.ListN.{length, getD, take};
 ghost use Rattle.buffers.specs.Put.{Put};
-ghost use Rattle.lines.specs.Lines.{printedLines};
-ghost use Rattle.report.specs.Report.{refusalLine, answerLines, lineCount, Printable, TableInBuffers};
+ghost use Rattle.lines.specs.Lines.{runLines, printed, printedLines};
+ghost use Rattle.report.specs.Report.{refusalLine, answerPrinted, answerRoom, answerLines, lineCount, Printable, Fitting};
 use lines::put_pair;
 use lines::put_refusal;
 use lines::put_row;
@@ -45,6 +45,47 @@ fn put_filled(
     let start = (i - 2) * columns;
     let end = start + columns;
     put_row(buf, 0, &cells[start..end])
+}
+
+// So many runs, one to a line, from a place of the buffer on.
+fn put_runs(buf: &mut [u8], at: usize, runs: usize, columns: usize, cells: &[u8]) -> usize
+    requires { ⌜ at + runs * (4 * columns + 1) ≤ length (now buf) ⌝ }
+    requires { ⌜ runs * columns ≤ length (now cells) ⌝ }
+    ensures { λ r. ⌜ Put (now (buf .entry)) at (runLines runs columns (now (cells .entry))) (now (buf .exit)) r ⌝ }
+{
+    let mut place = at;
+    let mut start = 0;
+    let mut i = 0;
+    while i < runs {
+        let end = start + columns;
+        place = put_row(buf, place, &cells[start..end]);
+        start = end;
+        i += 1;
+    }
+    place
+}
+
+// A table of so many runs and columns: the size, the level counts and the runs.
+fn put_table(buf: &mut [u8], runs: usize, columns: usize, levels: &[u8], cells: &[u8]) -> usize
+    requires { ⌜ answerRoom ≤ length (now buf) ⌝ }
+    requires { ⌜ Fitting runs columns (now levels) (now cells) ⌝ }
+    ensures { λ r. ⌜ Put (now (buf .entry)) 0 (printed runs (take columns (now (levels .entry))) (now (cells .entry))) (now (buf .exit)) r ⌝ }
+{
+    let after_size = put_pair(buf, 0, runs, columns);
+    let after_levels = put_row(buf, after_size, &levels[..columns]);
+    put_runs(buf, after_levels, runs, columns, cells)
+}
+
+// The whole of what is printed of an answer, at the front of a buffer. The level counts and the cells are those that came with the answer.
+pub fn put_answer(buf: &mut [u8], answer: Answer, levels: &[u8], cells: &[u8]) -> usize
+    requires { ⌜ answerRoom ≤ length (now buf) ⌝ }
+    requires { ⌜ Printable answer (now levels) (now cells) ⌝ }
+    ensures { λ r. ⌜ Put (now (buf .entry)) 0 (answerPrinted answer (now (levels .entry)) (now (cells .entry))) (now (buf .exit)) r ⌝ }
+{
+    match answer {
+        Answer::Filled { runs, columns } => put_table(buf, runs, columns, levels, cells),
+        Answer::Refused(why) => put_refused(buf, why),
+    }
 }
 
 // How many lines an answer has.

@@ -1,0 +1,90 @@
+-- What is printed of an answer, as the parts that are put one after the other, and the room that each of them finds.
+-- Assumes nothing.
+use mathlib.Core.Path.{_≡_, sym, _∙_}
+use mathlib.Core.List.{List, [], _∷_, _++_}
+use Prim.Native.Nat.{ℕ, _+_, _*_, _-_, _≤_, _<_}
+use native.Mathlib.Nat.{le-antisymm, zero-mul, suc-mul, mul-le-mul, mul-le-mul-right}
+use native.Mathlib.Numerals.{add-one}
+use native.Mathlib.Omega.{arith}
+use lib.ListN.{length, take, drop, length-append, length-take}
+use lib.Seq.{length-take-le}
+use Rattle.buffers.specs.Put.{Put, Bytes}
+use Rattle.buffers.proofs.Puts.{put-none, put-join, put-length}
+use Rattle.lines.specs.Lines.{digits, line, runLines, printed}
+use Rattle.lines.proofs.Digits.{digits-length}
+use Rattle.lines.proofs.Rows.{line-pair}
+use Rattle.lines.proofs.Runs.{runs-snoc, take-small, line-length, runs-length}
+use Rattle.report.specs.Report.{answerRoom, Fitting}
+
+-- The first n of some runs are put; the next starts at the place `start` among the cells.
+pub record RunsPut (columns : ℕ) (cells a : List ℕ) (at n : ℕ) (b : List ℕ) (end start : ℕ) : Type 0 where
+  pub put : Put a at (runLines n columns cells) b end
+  pub starts : start ≡ n * columns
+
+pub runs-none : (columns : ℕ) (cells a : List ℕ) (at : ℕ) → at ≤ length a → RunsPut columns cells a at 0 a at 0
+runs-none columns cells a at h = record { put = put-none a at h; starts = sym (zero-mul columns) }
+
+module _ {columns : ℕ} {cells a : List ℕ} {at n : ℕ} {b : List ℕ} {end start : ℕ} (so-far : RunsPut columns cells a at n b end start) where
+  -- Where there is a run more: its cells are there, and so is room for its line.
+  module _ {runs : ℕ} (more : n < runs) where
+    pub run-there : runs * columns ≤ length cells → start + columns ≤ length cells
+    run-there there = omega (arith, so-far .starts, suc-mul n columns, mul-le-mul-right columns more)
+
+    pub run-room : Bytes cells → at + runs * (4 * columns + 1) ≤ length a
+        → end + 4 * length (take (start + columns - start) (drop start cells)) < length b
+    run-room small room =
+        let wide = 4 * columns + 1 in
+        omega (
+          arith,
+          so-far .put .ends,
+          put-length (so-far .put),
+          length-take (start + columns - start) (drop start cells),
+          runs-length n columns cells small,
+          suc-mul n wide,
+          mul-le-mul-right wide more,
+        )
+
+  pub runs-all : {runs : ℕ} → n ≤ runs → runs ≤ n → Put a at (runLines runs columns cells) b end
+  runs-all most least = rw (le-antisymm most least) at (so-far .put)
+
+  pub run-next : {c : List ℕ} {end′ : ℕ} → Put b end (line (take (start + columns - start) (drop start cells))) c end′
+      → RunsPut columns cells a at (n + 1) c end′ (start + columns)
+  run-next q =
+      let wide : start + columns - start ≡ columns = omega arith in
+      record {
+        put = rw (add-one, runs-snoc) (put-join (so-far .put) (rw (wide, so-far .starts) at q));
+        starts = rw add-one (omega (arith, so-far .starts, suc-mul n columns));
+      }
+
+-- A table within the limits: the size and the level counts are put, then the runs.
+module _ {runs columns : ℕ} {levels cells : List ℕ} (fits : Fitting runs columns levels cells) where
+  pub many : length (take columns levels) ≡ columns
+  many = length-take-le columns levels (fits .levels-there)
+
+  size-length : length (line (runs ∷ columns ∷ [])) ≤ 8
+  size-length =
+      let numbers = length-append (digits runs) (32 ∷ digits columns) in
+      let whole = length-append (digits runs ++ (32 ∷ digits columns)) (10 ∷ []) in
+      let first = digits-length 2 runs (omega (arith, fits .few)) in
+      let second = digits-length 2 columns (omega (arith, fits .narrow)) in
+      rw line-pair (omega arith)
+
+  runs-wide : runs * (4 * columns + 1) ≤ 262656
+  runs-wide =
+      let wide : 4 * columns + 1 ≤ 513 = omega (arith, fits .narrow) in
+      mul-le-mul (fits .few) wide
+
+  module _ {a b : List ℕ} {j : ℕ} (size : Put a 0 (line (runs ∷ columns ∷ [])) b j) where
+    pub levels-room : answerRoom ≤ length a → j + 4 * length (take columns levels) < length b
+    levels-room room = omega (arith, many, fits .narrow, size .ends, size-length, put-length size)
+
+    module _ {c : List ℕ} {k : ℕ} (counts : Put b j (line (take columns levels)) c k) where
+      pub runs-room : Bytes levels → answerRoom ≤ length a → k + runs * (4 * columns + 1) ≤ length c
+      runs-room small room =
+          let long = line-length (take columns levels) (take-small columns levels small) in
+          let kept = put-length counts ∙ put-length size in
+          omega (arith, many, fits .narrow, size .ends, size-length, counts .ends, long, kept, runs-wide)
+
+      pub put-printed : {d : List ℕ} {l : ℕ} → Put c k (runLines runs columns cells) d l → Put a 0 (printed runs (take columns levels) cells) d l
+      unfolding printed
+      put-printed q = rw many (put-join (put-join size counts) q)

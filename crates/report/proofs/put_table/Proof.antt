@@ -1,0 +1,47 @@
+-- `report::put_table` meets its contract: the three parts are put one after the other, and the buffer has room for them.
+use mathlib.Core.Path.{sym}
+use borrow.Author.Needs.{needs}
+use Rattle.buffers.specs.Put.{Bytes}
+use Rattle.report.proofs.Answers.{many, levels-room, runs-room, put-printed}
+use Rattle.report.proofs.put_table.Statement.{statement}
+use Rattle.report.proofs.put_table.Tie as tie
+
+put-pair-requires : tie.Need-put-pair-requires
+put-pair-requires c κs = search needs
+
+slice-aggregate-put-row : tie.Need-slice-aggregate-put-row
+slice-aggregate-put-row c = sym (many (c .before .before .before .before .before .before .before .before .before .pre .1))
+
+put-row-requires : tie.Need-put-row-requires
+put-row-requires c κs =
+    let start = c .before .before .before .before .before .before .before .before .before in
+    levels-room (start .pre .1) (c .before .before .before .before .put-pair .ensures) (start .pre .0)
+
+bytes : (c : tie.After-put-runs-arg) → Bytes (c .before .before .before .before .before .before .before .before .before .before .before .before .before .args .levels .now)
+unfolding Bytes
+bytes c k h = c .before .before .before .before .before .before .before .before .before .before .before .shared-slice-known .given k .fits
+
+put-runs-requires : tie.Need-put-runs-requires
+put-runs-requires c κs =
+    let turn = c .before .before .before .before .before .before .before .before in
+    let start = turn .before .before .before .before .before in
+    (runs-room (start .pre .1) (turn .put-pair .ensures) (c .before .before .before .put-row .ensures) (bytes c) (start .pre .0), start .pre .1 .cells-there)
+
+same-length : tie.Need-same-length
+same-length c = search needs
+
+returns : tie.Need-returns
+returns c =
+    let turn = c .before .before .before .before .before .before .before .before .before .before .before in
+    put-printed (turn .before .before .before .before .before .pre .1) (turn .put-pair .ensures) (c .before .before .before .before .before .before .put-row .ensures) (c .before .before .put-runs .ensures)
+
+pub put-table-spec : {M : Type 1} → statement M
+put-table-spec =
+    tie.close
+    (tie.spec
+    put-pair-requires
+    slice-aggregate-put-row
+    put-row-requires
+    put-runs-requires
+    same-length
+    returns)
