@@ -1,7 +1,7 @@
 -- The scanner reads a text as `reading` says, in whatever pieces it comes: after each byte its state is what the definition has of the bytes so far,
 -- namely how many whole words there are, and the number that the word begun writes.
 use mathlib.Core.Path.{_≡_, refl, sym, _∙_, ap}
-use mathlib.Core.Bool.{true, false, cond, _&&_, and-false, true≢false}
+use mathlib.Core.Bool.{Bool, true, false, cond, _&&_, true≢false}
 use mathlib.Core.List.{List, [], _∷_, _++_, append-nil, foldl, foldl-append, flatten}
 use Prim.Native.Nat.{ℕ, _+_}
 use native.Mathlib.Numerals.{add-one}
@@ -11,12 +11,13 @@ use lib.Dec.{ltb}
 use lib.ListN.{length, take, set, length-set}
 use lib.Seq.{take-suc-set, append-snoc}
 use Rattle.words.specs.Words.{isGap, words, decimal, isNumber, Reading, numbers, refused, prefixed, readWords, reading}
-use Rattle.words.specs.Scanner.{grown, stored, resumed, Progress, stepped, advanced, finishOf, finished, scannedReading}
+use Rattle.words.specs.Scanner.{grown, begun, stored, resumed, Progress, stepped, advanced, finishOf, finished, readingOf}
 use Rattle.words.specs.declared.Scan.{Scan}
 use Rattle.words.specs.declared.Scan.the-variants.{Between, Inside, Failed}
 use Rattle.words.proofs.Steps.{skips, begins, ends, grows, stays}
 use Rattle.lines.proofs.Cases.{by-cases}
-use Rattle.words.proofs.Cuts.{Solid, solid-snoc, words-last, words-gap, words-none, words-skip, decimal-snoc, number-none, number-snoc, bad-snoc}
+use Rattle.words.proofs.Cuts.{Solid, solid-snoc, words-last, words-gap, words-none, words-skip, decimal-snoc, number-none, number-snoc}
+use Rattle.words.proofs.Following.{allowed, Bad, bad-refused}
 
 -- The numbers already in the list, before what the rest of the text comes to.
 abbrev after : List ℕ → Reading → Reading
@@ -44,22 +45,38 @@ failed-stays : (place : ℕ) (list bytes : List ℕ) → outcome bytes (Failed p
 failed-stays place list [] = refl
 failed-stays place list (b ∷ bs) = ap (outcome bs) (sym (stays list b refl)) ∙ failed-stays place list bs
 
--- A word that is no number is refused at its place, whatever follows.
-bad-refused : (bytes : List ℕ) (place : ℕ) (word : List ℕ) → Solid word → isNumber word ≡ false → readWords place (words (word ++ bytes)) ≡ refused place
-bad-refused [] place [] s e = absurd (true≢false (sym number-none ∙ e))
-bad-refused [] place (b ∷ bs) s e = rw (append-nil, words-last b bs s, e, and-false)
-bad-refused (x ∷ xs) place [] s e = absurd (true≢false (sym number-none ∙ e))
-bad-refused (x ∷ xs) place (b ∷ bs) s e =
-    by-cases (isGap x) (λ g. rw (words-gap b bs s x xs g, e, and-false))
-    λ g.
-    rw (← append-snoc (b ∷ bs) x xs)
-    (bad-refused xs place ((b ∷ bs) ++ (x ∷ [])) (solid-snoc (b ∷ bs) x s g) (bad-snoc (b ∷ bs) x e))
+-- A word at a place is a number so far, and one of the first 32,768; before its first byte nothing is asked.
+abbrev Fine : ℕ → List ℕ → Type 0
+Fine count [] = Unit {0}
+Fine count (b ∷ bs) = (ltb count 32768 ≡ true) × (isNumber (b ∷ bs) ≡ true)
+
+and-both : (a b : Bool) → (a && b) ≡ true → (a ≡ true) × (b ≡ true)
+and-both true true e = (refl, refl)
+and-both true false e = absurd (true≢false (sym e))
+and-both false b e = absurd (true≢false (sym e))
+
+module _ (count : ℕ) (word : List ℕ) (x : ℕ) where
+  fine-more : allowed count (word ++ (x ∷ [])) ≡ true → Fine count (word ++ (x ∷ []))
+  fine-more = go word
+    where
+      go : (w : List ℕ) → allowed count (w ++ (x ∷ [])) ≡ true → Fine count (w ++ (x ∷ []))
+      go [] e = and-both _ _ e
+      go (b ∷ bs) e = and-both _ _ e
+
+  bad-now : allowed count (word ++ (x ∷ [])) ≡ false → Bad count (word ++ (x ∷ []))
+  bad-now = go word
+    where
+      go : (w : List ℕ) → allowed count (w ++ (x ∷ [])) ≡ false → Bad count (w ++ (x ∷ []))
+      go [] e = e
+      go (b ∷ bs) e = e
 
 -- A byte of a word, the first or a later one.
-step-word : (count : ℕ) (word list : List ℕ) (x : ℕ) → isGap x ≡ false → isNumber word ≡ true → stepped (within count word, list) x ≡ (cond (isNumber (word ++ (x ∷ []))) (within count (word ++ (x ∷ []))) (Failed count), list)
-unfolding grown decimal
-step-word count [] list x g e = sym (begins list x refl g) ∙ rw (number-snoc [] x e)
-step-word count (b ∷ bs) list x g e = sym (grows list x refl g) ∙ rw (number-snoc (b ∷ bs) x e, decimal-snoc (b ∷ bs) x)
+step-word : (count : ℕ) (word list : List ℕ) (x : ℕ) → isGap x ≡ false → Fine count word
+    → stepped (within count word, list) x ≡ (cond (allowed count (word ++ (x ∷ []))) (within count (word ++ (x ∷ []))) (Failed count), list)
+unfolding begun grown decimal
+step-word count [] list x g e =
+    sym (begins list x refl g) ∙ by-cases (ltb count 32768) (λ l. rw (l, number-snoc [] x number-none)) (λ l. rw l)
+step-word count (b ∷ bs) list x g e = sym (grows list x refl g) ∙ rw (e .0, number-snoc (b ∷ bs) x (e .1), decimal-snoc (b ∷ bs) x)
 
 -- The end of a word that is a number, with what follows it.
 module _ (count value : ℕ) (list : List ℕ) (places : length list ≡ 32768) where
@@ -82,7 +99,7 @@ module _ (count value : ℕ) (list : List ℕ) (places : length list ≡ 32768) 
 -- Within a word that is a number so far, the scanner comes to what the definition has of the word and the rest of the text together.
 abbrev Reads : List ℕ → ℕ → List ℕ → Type 0
 Reads bytes count word =
-    (list : List ℕ) → length list ≡ 32768 → Solid word → isNumber word ≡ true →
+    (list : List ℕ) → length list ≡ 32768 → Solid word → Fine count word →
     outcome bytes (within count word, list) ≡ after (take count list) (readWords count (words (word ++ bytes)))
 
 reads-gap : (x : ℕ) (xs : List ℕ) → isGap x ≡ true → ((count : ℕ) → Reads xs count []) → (count : ℕ) (word : List ℕ) → Reads (x ∷ xs) count word
@@ -91,22 +108,22 @@ reads-gap x xs g rest count [] list places s e =
 reads-gap x xs g rest count (b ∷ bs) list places s e =
     let value = decimal (b ∷ bs) in
     ap (outcome xs) (sym (ends list x refl g))
-    ∙ rw (words-gap b bs s x xs g, e)
+    ∙ rw (words-gap b bs s x xs g, e .1)
     (ends-gap count value list places xs (readWords (count + 1) (words xs))
-    (rest (count + 1) (set list count value) (length-set list count value ∙ places) tt number-none))
+    (rest (count + 1) (set list count value) (length-set list count value ∙ places) tt tt))
 
 reads-on : (bytes : List ℕ) (count : ℕ) (word : List ℕ) → Reads bytes count word
 reads-on [] count [] list places s e = rw (words-none, append-nil)
-reads-on [] count (b ∷ bs) list places s e = rw (append-nil, words-last b bs s, e) (ends-last count (decimal (b ∷ bs)) list places)
+reads-on [] count (b ∷ bs) list places s e = rw (append-nil, words-last b bs s, e .1) (ends-last count (decimal (b ∷ bs)) list places)
 reads-on (x ∷ xs) count word list places s e =
     by-cases (isGap x) (λ g. reads-gap x xs g (λ k. reads-on xs k []) count word list places s e)
     λ g.
     let more = word ++ (x ∷ []) in
     ap (outcome xs) (step-word count word list x g e)
     ∙ rw (← append-snoc word x xs)
-    (by-cases (isNumber more)
-    (λ n. rw n (reads-on xs count more list places (solid-snoc word x s g) n))
-    (λ n. rw (n, bad-refused xs count more (solid-snoc word x s g) n) (failed-stays count list xs)))
+    (by-cases (allowed count more)
+    (λ n. rw n (reads-on xs count more list places (solid-snoc word x s g) (fine-more count word x n)))
+    (λ n. rw (n, bad-refused xs count more (solid-snoc word x s g) (bad-now count word x n)) (failed-stays count list xs)))
 
 -- The theorem: a text in any pieces, one after the other, read into a list of 32,768 places.
 module _ (list : List ℕ) (places : length list ≡ 32768) where
@@ -118,6 +135,6 @@ module _ (list : List ℕ) (places : length list ≡ 32768) where
   pub any-cut : (pieces : List (List ℕ)) → scannedReading (finished (foldl advanced (Between 0, list) pieces)) ≡ reading (flatten pieces)
   unfolding reading finished advanced
   any-cut pieces =
-      ap (λ (p : Progress). scannedReading (finished p)) (pieces-joined (Between 0, list) pieces)
-      ∙ reads-on (flatten pieces) 0 [] list places tt number-none
+      ap (λ (p : Progress). readingOf (finished p)) (pieces-joined (Between 0, list) pieces)
+      ∙ reads-on (flatten pieces) 0 [] list places tt tt
       ∙ after-nil (reading (flatten pieces))

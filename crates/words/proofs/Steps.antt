@@ -7,7 +7,7 @@ use native.Mathlib.Numerals.{add-one}
 use lib.ListN.{length, getD, drop, drop-of-length-le}
 use lib.Seq.{drop-cons}
 use Rattle.words.specs.Words.{isGap}
-use Rattle.words.specs.Scanner.{grown, stored, resumed, Progress, stepped, advanced}
+use Rattle.words.specs.Scanner.{grown, begun, stored, resumed, Progress, stepped, advanced}
 use Rattle.words.specs.declared.Scan.{Scan}
 use Rattle.words.specs.declared.Scan.the-variants.{Between, Inside, Failed}
 
@@ -17,7 +17,7 @@ module _ (list : List ℕ) (byte : ℕ) {s : Scan} where
   unfolding stepped
   skips e g = rw (e, g)
 
-  pub begins : {count : ℕ} → s ≡ Between count → isGap byte ≡ false → (grown count 0 byte, list) ≡ stepped (s, list) byte
+  pub begins : {count : ℕ} → s ≡ Between count → isGap byte ≡ false → (begun count byte, list) ≡ stepped (s, list) byte
   unfolding stepped
   begins e g = rw (e, g)
 

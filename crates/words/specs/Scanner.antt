@@ -17,6 +17,10 @@ grown count value byte =
     let next = value * 10 + (byte - 48) in
     cond (isDigit byte && leb next 65535) (Inside count next) (Failed count)
 
+-- The first byte of the word after so many numbers. The word after 32,768 of them is refused, whatever it is.
+unfoldable pub begun : ℕ → ℕ → Scan
+begun count byte = cond (ltb count 32768) (grown count 0 byte) (Failed count)
+
 -- The end of the word after so many numbers, which writes value: it goes into the list, which has 32,768 places.
 unfoldable pub stored : ℕ → ℕ → List ℕ → Scanned × List ℕ
 stored count value list = cond (ltb count 32768) (Numbers (count + 1), set list count value) (Refused count, list)
@@ -30,9 +34,9 @@ abbrev pub Progress : Type 0
 Progress = Scan × List ℕ
 
 -- After one byte. A gap after a word ends it.
-abbrev pub scanStep : Scan → List ℕ → ℕ → Progress
-scanStep (Between count) list byte = (cond (isGap byte) (Between count) (grown count 0 byte), list)
-scanStep (Inside count value) list byte =
+abbrev pub stepOf : Scan → List ℕ → ℕ → Progress
+stepOf (Between count) list byte = (cond (isGap byte) (Between count) (begun count byte), list)
+stepOf (Inside count value) list byte =
     cond (isGap byte) (resumed (stored count value list .0), stored count value list .1) (grown count value byte, list)
 scanStep (Failed place) list byte = (Failed place, list)
 
@@ -57,19 +61,19 @@ abbrev pub scannedReading : Scanned × List ℕ → Reading
 scannedReading (Numbers count, list) = numbers (take count list)
 scannedReading (Refused place, list) = refused place
 
--- The place of the next word, or of the one begun or refused.
-abbrev pub place : Scan → ℕ
-place (Between count) = count
-place (Inside count value) = count
-place (Failed at) = at
+-- How many places of the list are taken: by the numbers read, and by a word begun. Before a refused word stand as many numbers as its place says.
+abbrev pub taken : Scan → ℕ
+taken (Between count) = count
+taken (Inside count value) = count + 1
+taken (Failed at) = at
 
 abbrev pub placeAtEnd : Scanned → ℕ
 placeAtEnd (Numbers count) = count
 placeAtEnd (Refused at) = at
 
--- A scanner that has read at most 32,768 numbers, or refuses at a place up to that, with a list of so many places: under way, and at its end.
-pub record Unfinished (places : ℕ) (s : Scan) (list : List ℕ) : Type 0 where
-  pub low : place s ≤ 32768
+-- A scanner that takes at most 32,768 of so many places: under way, and at its end.
+pub record Sound (places : ℕ) (s : Scan) (list : List ℕ) : Type 0 where
+  pub low : taken s ≤ 32768
   pub kept : length list ≡ places
 
 pub record Ended (places : ℕ) (r : Scanned) (list : List ℕ) : Type 0 where

@@ -2,7 +2,7 @@
 // a piece at a time.
 ghost use mathlib.Core.Path.{_≡_};
 ghost use Rattle.words.specs.Words.{isGap};
-ghost use Rattle.words.specs.Scanner.{grown, stored, resumed, stepped, advanced, finished};
+ghost use Rattle.words.specs.Scanner.{grown, begun, stored, resumed, stepped, advanced, finished};
 
 // How far a text has been read.
 pub enum Scan {
@@ -50,6 +50,16 @@ fn grow(count: usize, value: u16, byte: u8) -> Scan
     }
 }
 
+// The first byte of the word after count numbers. The word after 32,768 numbers is refused, whatever it is.
+fn begin(count: usize, byte: u8) -> Scan
+    ensures { λ r. ⌜ r ≡ begun count byte ⌝ }
+{
+    if 32768 <= count {
+        return Scan::Failed { place: count };
+    }
+    grow(count, 0, byte)
+}
+
 // The end of the word after count numbers, which writes value.
 fn store(count: usize, value: u16, list: &mut [u16; 32768]) -> Scanned
     ensures { λ r. ⌜ (r, now (list .exit)) ≡ stored count value (now (list .entry)) ⌝ }
@@ -90,7 +100,7 @@ impl Scan {
                 if gap {
                     Scan::Between { count }
                 } else {
-                    grow(count, 0, byte)
+                    begin(count, byte)
                 }
             }
             Scan::Inside { count, value } => {

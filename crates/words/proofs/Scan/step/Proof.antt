@@ -11,8 +11,8 @@ is-gap-requires c κs = search needs
 enum-known-self : tie.Need-enum-known-self
 enum-known-self c = search needs
 
-grow-requires : tie.Need-grow-requires
-grow-requires c κs = search needs
+begin-requires : tie.Need-begin-requires
+begin-requires c κs = search needs
 
 enum-known-self-2 : tie.Need-enum-known-self-2
 enum-known-self-2 c = search needs
@@ -23,8 +23,8 @@ store-requires c κs = search needs
 resume-requires : tie.Need-resume-requires
 resume-requires c κs = search needs
 
-grow-requires-2 : tie.Need-grow-requires-2
-grow-requires-2 c κs = search needs
+grow-requires : tie.Need-grow-requires
+grow-requires c κs = search needs
 
 enum-known-self-3 : tie.Need-enum-known-self-3
 enum-known-self-3 c = search needs
@@ -33,7 +33,7 @@ returns : tie.Need-returns
 returns c = skips _ _ (c .before .before .self .given .1) (sym (c .before .before .before .before .is-gap .ensures) ∙ c .if1 .taken)
 
 returns-2 : tie.Need-returns-2
-returns-2 c = rw (c .grow .ensures) (begins _ _ (c .before .before .before .self .given .1) (sym (c .before .before .before .before .before .is-gap .ensures) ∙ c .before .if1 .left))
+returns-2 c = rw (c .begin .ensures) (begins _ _ (c .before .before .before .self .given .1) (sym (c .before .before .before .before .before .is-gap .ensures) ∙ c .before .if1 .left))
 
 returns-3 : tie.Need-returns-3
 returns-3 c =
@@ -41,7 +41,7 @@ returns-3 c =
     (ends _ _ (c .before .before .before .before .before .self2 .given .1) (sym (c .before .before .before .before .before .before .before .is-gap .ensures) ∙ c .before .before .before .if2 .taken))
 
 returns-4 : tie.Need-returns-4
-returns-4 c = rw (c .grow2 .ensures) (grows _ _ (c .before .before .before .self2 .given .1) (sym (c .before .before .before .before .before .is-gap .ensures) ∙ c .before .if2 .left))
+returns-4 c = rw (c .grow .ensures) (grows _ _ (c .before .before .before .self2 .given .1) (sym (c .before .before .before .before .before .is-gap .ensures) ∙ c .before .if2 .left))
 
 returns-5 : tie.Need-returns-5
 returns-5 c = stays _ _ (c .before .self3 .given .1)
@@ -52,11 +52,11 @@ step-spec =
     (tie.spec
     is-gap-requires
     enum-known-self
-    grow-requires
+    begin-requires
     enum-known-self-2
     store-requires
     resume-requires
-    grow-requires-2
+    grow-requires
     enum-known-self-3
     returns
     returns-2
