@@ -1,8 +1,8 @@
--- What `plan` promises can be printed, and its lines, one after the other, are what the order's outcome prints.
+-- What `plan` promises can be printed, and what is printed of its answer is what is printed of the order's outcome.
 -- Assumes nothing.
 use mathlib.Core.Path.{_≡_, refl, _∙_, ap}
 use mathlib.Core.Bool.{Bool, true, false, cond}
-use mathlib.Core.List.{List, flatten}
+use mathlib.Core.List.{List}
 use Prim.Native.Nat.{ℕ, _*_, _-_, _≤_}
 use native.Mathlib.Nat.{le-trans}
 use native.Mathlib.Omega.{arith}
@@ -19,8 +19,8 @@ use Rattle.layout.specs.Bytes.{runOf, runsOf, zeros, padded}
 use Rattle.promise.specs.Promise.{suffice, planned, answerTo, tableBytes, levelBytes, Promise}
 use Rattle.layout.proofs.Bytes.{runs-length}
 use Rattle.layout.proofs.Sheets.{padded-length, cells-few}
-use Rattle.report.specs.Report.{answerLines, lineCount, TableInBuffers, Printable, outcomePrinted}
-use Rattle.report.proofs.Padded.{filled-printed, refused-printed}
+use Rattle.report.specs.Report.{answerPrinted, Fitting, Printable, outcomePrinted}
+use Rattle.report.proofs.Padded.{filled-printed}
 
 -- a table in buffers of n and m bytes
 module _ (S : Table) (n m : ℕ) (small : SmallEnough S) (table-long : 65536 ≤ n) (levels-long : 128 ≤ m) where
@@ -41,18 +41,22 @@ module _ (n m : ℕ) where
   Within (filled S) = SmallEnough S × (65536 ≤ n) × (128 ≤ m)
   Within (refused why) = Unit {0}
 
-  outcome-printable : (o : Outcome) → Within o → Printable (answerTo o) (levelBytes m o) (tableBytes n o) × (lineCount (answerTo o) ≤ 65536)
-  unfolding answerTo levelBytes tableBytes Printable lineCount
-  outcome-printable (filled S) (small, table-long, levels-long) = (fits-padded S n m small table-long levels-long, omega (arith, small .runs-most))
-  outcome-printable (refused why) w = (tt, omega arith)
+  outcome-printable : (o : Outcome) → Within o → Printable (answerTo o) (levelBytes m o) (tableBytes n o)
+  unfolding answerTo levelBytes tableBytes Printable
+  outcome-printable (filled S) (small, table-long, levels-long) = fits-padded S n m small table-long levels-long
+  outcome-printable (refused why) w = tt
 
-  outcome-lines : (o : Outcome) → flatten (answerLines (answerTo o) (levelBytes m o) (tableBytes n o)) ≡ outcomePrinted o
-  unfolding answerTo levelBytes tableBytes padded outcomePrinted runsOf runOf
-  outcome-lines (filled S) =
+  outcome-put : (o : Outcome) → answerPrinted (answerTo o) (levelBytes m o) (tableBytes n o) ≡ outcomePrinted o
+  unfolding answerTo levelBytes tableBytes padded answerPrinted outcomePrinted runsOf runOf
+  outcome-put (filled S) =
       filled-printed (S .runs) (S .levels) (runsOf S) (zeros (m - columns S)) (zeros (n - length (runsOf S))) (runs-length S)
-  outcome-lines (refused why) = refused-printed why (zeros m) (zeros n)
+  outcome-put (refused why) = refl
 
--- a filled outcome passed question 1
+-- buffers of the program's lengths pass question 1, and only then is an outcome filled
+planned-outcome : (list : List ℕ) {n m k : ℕ} → 65536 ≡ n → 128 ≡ m → 65536 ≡ k → planned list n m k ≡ outcome list
+unfolding planned
+planned-outcome list a b c = rw (← a, ← b, ← c)
+
 passed : (b : Bool) (o : Outcome) {S : Table} → cond b o (refused ShortBuffers) ≡ filled S → o ≡ filled S
 passed true o e = e
 passed false o e = absurd (refused-not-filled e)
@@ -66,12 +70,12 @@ module _ {list table levels scratch : List ℕ} {answer : Answer} {table′ leve
       (filled-sound list (passed (suffice (length table) (length levels) (length scratch)) (outcome list) e) .1, long .table-long, long .levels-long)
   planned-within (refused why) e = tt
 
-  pub promise-printable : Printable answer levels′ table′ × (lineCount answer ≤ 65536)
+  pub promise-printable : Printable answer levels′ table′
   promise-printable =
       rw (promise .answered, promise .table-is, promise .levels-are) (outcome-printable (length table) (length levels) _ (planned-within _ refl))
 
-  -- The whole of what is printed.
-  pub promise-printed : flatten (answerLines answer levels′ table′) ≡ outcomePrinted (planned list (length table) (length levels) (length scratch))
-  promise-printed =
+  pub promise-printed : 65536 ≡ length table → 128 ≡ length levels → 65536 ≡ length scratch → answerPrinted answer levels′ table′ ≡ outcomePrinted (outcome list)
+  promise-printed a b c =
       rw (promise .answered, promise .table-is, promise .levels-are)
-      (outcome-lines (length table) (length levels) (planned list (length table) (length levels) (length scratch)))
+      (outcome-put (length table) (length levels) (planned list (length table) (length levels) (length scratch)))
+      ∙ ap outcomePrinted (planned-outcome list a b c)

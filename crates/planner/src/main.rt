@@ -1,75 +1,110 @@
-// The planner: reads an order as decimal numbers from standard input, plans it and prints the run table or the refusal (document 01, "Printed
-// runs"). What is read and what is put into a line is proved in `words`, `construction` and `report`; here it is only read and written.
+// The planner: reads an order as decimal numbers from standard input and prints the run table or the refusal (document 01, "Printed runs"). Its own
+// part is to read, as far as the answer needs it, to put the whole answer into one buffer, and to write that at once.
+ghost use mathlib.Core.Path.{_≡_};
 ghost use Prim.Native.Nat.{_≤_};
 ghost use lib.ListN.{length};
-ghost use Rattle.words.specs.Scanner.{Ended};
-ghost use Rattle.planner.specs.Scanned.{ScannedWhole};
-ghost use Rattle.report.specs.Report.{lineCount, Printable};
+ghost use Rattle.buffers.specs.Put.{Put};
+ghost use Rattle.sheets.specs.Outcome.{outcome};
+ghost use Rattle.words.specs.Scanner.{readingOf, Ended};
+ghost use Rattle.report.specs.Report.{outcomePrinted, readingPrinted, answerRoom};
+ghost use Rattle.planner.specs.Input.{afterRead, ScannedInput, AnsweredInput};
 use libc::STDIN_FILENO;
 use libc::STDOUT_FILENO;
-use report::line_count;
-use report::put_line;
+use report::put_answer;
 use report::put_refused;
-use sheets::answer::Answer;
 use sheets::answer::Refusal;
 use words::Scan;
 use words::Scanned;
 
-fn main() {
-    let mut list = [0u16; 32768];
-    match scan_input(&mut list) {
-        Scanned::Numbers { count } => plan_and_print(&list[..count]),
-        Scanned::Refused { place } => print_unread(place),
-    }
+// What comes after a read: another one, from where the scanner stands, or the answer.
+enum Next {
+    Read(Scan),
+    Answer(Scanned),
 }
 
-// The numbers of standard input, which is read to its end in pieces; a read that fails ends it too. A proved loop has to end, and nothing says that
-// the input does, so the pieces are counted down from a number that no input reaches.
+fn main() {
+    let mut out = answer_room();
+    let end = answer_input(&mut out);
+    io::write_all(STDOUT_FILENO, &out[..end]);
+}
+
+// Room for any answer. The contract tells the length alone, so that no proof writes the zeros out.
+fn answer_room() -> [u8; 263682]
+    ensures { λ r. ⌜ 263682 ≡ length r ⌝ }
+{
+    [0; 263682]
+}
+
+// Puts what is printed for standard input, whole, at the front of a buffer.
+fn answer_input(out: &mut [u8]) -> usize
+    requires { ⌜ answerRoom ≤ length (now out) ⌝ }
+    ensures { λ r. ⌜ AnsweredInput (now (out .entry)) (now (out .exit)) r ⌝ }
+{
+    let mut list = [0u16; 32768];
+    let scanned = scan_input(&mut list);
+    put_scanned(scanned, &list, out)
+}
+
+// The numbers of standard input, which is read in pieces, up to its end or to a word that is refused; a read that fails ends it too. A proved loop
+// has to end, and nothing says that the input does, so the reads are counted down from a number that no input reaches.
 fn scan_input(list: &mut [u16; 32768]) -> Scanned
-    ensures { λ r. ⌜ Ended (length (now (list .entry))) r (now (list .exit)) ⌝ }
-    ensures { λ r. ⌜ ScannedWhole (now (list .entry)) r (now (list .exit)) ⌝ }
+    requires { ⌜ length (now list) ≡ 32768 ⌝ }
+    ensures { λ r. ⌜ ScannedInput r (now (list .exit)) ⌝ }
 {
     let mut piece = [0u8; 4096];
     let mut state = Scan::start();
-    let mut pieces_left = u64::MAX;
-    while pieces_left > 0 {
+    let mut reads_left = u64::MAX;
+    while reads_left > 0 {
         let got = libc::read(STDIN_FILENO, &mut piece);
         let n = io::count(got, &piece);
-        if n == 0 {
-            return state.finish(list);
+        match after_read(state, &piece[..n], list) {
+            Next::Read(next) => {
+                state = next;
+            }
+            Next::Answer(scanned) => {
+                return scanned;
+            }
         }
-        state = state.piece(&piece[..n], list);
-        pieces_left -= 1;
+        reads_left -= 1;
     }
     state.finish(list)
 }
 
-// The line of a text with a word that is refused.
-fn print_unread(place: usize) {
-    let mut line = [0u8; 1024];
-    let end = put_refused(&mut line, Refusal::Unreadable { place });
-    io::write_all(STDOUT_FILENO, &line[..end]);
+// What comes after a read that gave these bytes: none end the text, and a word that is refused ends the reading.
+fn after_read(state: Scan, bytes: &[u8], list: &mut [u16; 32768]) -> Next
+    ensures { λ r. ⌜ (r, now (list .exit)) ≡ afterRead (state, now (list .entry)) (now (bytes .entry)) ⌝ }
+{
+    if bytes.len() == 0 {
+        return Next::Answer(state.finish(list));
+    }
+    let reached = state.piece(bytes, list);
+    match reached {
+        Scan::Between { count } => Next::Read(Scan::Between { count }),
+        Scan::Inside { count, value } => Next::Read(Scan::Inside { count, value }),
+        Scan::Failed { place } => Next::Answer(Scanned::Refused { place }),
+    }
 }
 
-fn plan_and_print(list: &[u16]) {
+// Puts what is printed for a text that comes to this: the answer to its numbers, or the refusal of a word.
+fn put_scanned(scanned: Scanned, list: &[u16], out: &mut [u8]) -> usize
+    requires { ⌜ Ended 32768 scanned (now list) ⌝ }
+    requires { ⌜ answerRoom ≤ length (now out) ⌝ }
+    ensures { λ r. ⌜ Put (now (out .entry)) 0 (readingPrinted (readingOf (scanned, now (list .entry)))) (now (out .exit)) r ⌝ }
+{
+    match scanned {
+        Scanned::Numbers { count } => put_plan(&list[..count], out),
+        Scanned::Refused { place } => put_refused(out, Refusal::Unreadable { place }),
+    }
+}
+
+// Plans a list of numbers and puts what is printed of the answer.
+fn put_plan(list: &[u16], out: &mut [u8]) -> usize
+    requires { ⌜ answerRoom ≤ length (now out) ⌝ }
+    ensures { λ r. ⌜ Put (now (out .entry)) 0 (outcomePrinted (outcome (now (list .entry)))) (now (out .exit)) r ⌝ }
+{
     let mut table = [0u8; 65536];
     let mut levels = [0u8; 128];
     let mut scratch = [0u8; 65536];
     let answer = construction::plan(list, &mut table, &mut levels, &mut scratch);
-    print_answer(answer, &levels, &table);
-}
-
-// The lines of an answer, one after the other.
-fn print_answer(answer: Answer, levels: &[u8], table: &[u8])
-    requires { ⌜ Printable answer (now levels) (now table) ⌝ }
-    requires { ⌜ lineCount answer ≤ 65536 ⌝ }
-{
-    let mut line = [0u8; 1024];
-    let count = line_count(answer);
-    let mut i = 0;
-    while i < count {
-        let end = put_line(&mut line, i, answer, levels, table);
-        io::write_all(STDOUT_FILENO, &line[..end]);
-        i += 1;
-    }
+    put_answer(out, answer, &levels, &table)
 }

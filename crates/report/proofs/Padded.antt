@@ -1,17 +1,15 @@
--- The lines of an answer, one after the other, are what is printed of its table, whatever stands after the table in its buffers.
+-- What is printed of an answer is what is printed of its table, whatever stands after the table in its buffers.
 -- Assumes nothing.
 use mathlib.Core.Path.{_≡_, refl, _∙_, ap, ap₂}
-use mathlib.Core.List.{List, [], _∷_, _++_, append-nil, flatten}
+use mathlib.Core.List.{List, [], _∷_, _++_}
 use Prim.Native.Nat.{ℕ, zero, suc, _*_, _≤_}
 use native.Mathlib.Nat.{suc-mul}
 use native.Mathlib.Omega.{arith}
 use lib.ListN.{length, take, drop, length-drop}
 use lib.Seq.{take-at}
-use Rattle.lines.specs.Lines.{line, runLines, printed, printedLines}
-use Rattle.lines.proofs.Printing.{lines-joined}
-use Rattle.sheets.specs.declared.answer.Refusal.{Refusal}
-use Rattle.sheets.specs.declared.answer.Answer.the-variants.{Filled, Refused}
-use Rattle.report.specs.Report.{refusalLine, answerLines}
+use Rattle.lines.specs.Lines.{line, runLines, printed}
+use Rattle.sheets.specs.declared.answer.Answer.the-variants.{Filled}
+use Rattle.report.specs.Report.{answerPrinted}
 
 take-front : (m : ℕ) (xs rest : List ℕ) → m ≤ length xs → take m (xs ++ rest) ≡ take m xs
 take-front zero xs rest h = refl
@@ -32,13 +30,8 @@ runs-front (suc runs) m cells rest h =
     ∙ runs-front runs m (drop m cells) rest (omega (arith, length-drop m cells, suc-mul runs m)))
 
 pub filled-printed : (runs : ℕ) (levels cells after-levels after-cells : List ℕ) → length cells ≡ runs * length levels
-    → flatten (answerLines (Filled runs (length levels)) (levels ++ after-levels) (cells ++ after-cells)) ≡ printed runs levels cells
-unfolding answerLines printed
+    → answerPrinted (Filled runs (length levels)) (levels ++ after-levels) (cells ++ after-cells) ≡ printed runs levels cells
+unfolding answerPrinted printed
 filled-printed runs levels cells after-levels after-cells whole =
-    ap (λ (l : List ℕ). flatten (printedLines runs l (cells ++ after-cells))) (take-at levels after-levels (length levels) refl)
-    ∙ lines-joined runs levels (cells ++ after-cells)
+    ap (λ (l : List ℕ). printed runs l (cells ++ after-cells)) (take-at levels after-levels (length levels) refl)
     ∙ ap (λ (l : List ℕ). line (runs ∷ length levels ∷ []) ++ line levels ++ l) (runs-front runs (length levels) cells after-cells whole)
-
-pub refused-printed : (why : Refusal) (levels cells : List ℕ) → flatten (answerLines (Refused why) levels cells) ≡ refusalLine why
-unfolding answerLines flatten
-refused-printed why levels cells = append-nil (refusalLine why)

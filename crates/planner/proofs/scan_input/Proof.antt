@@ -1,26 +1,24 @@
--- `planner::scan_input` meets its contract. The invariant: the scanner is sound over the list, the buffer keeps its 4,096 bytes, and some pieces
--- have been scanned from the start. The measure is the number of pieces that are left.
-use mathlib.Core.Path.{_≡_}
+-- `planner::scan_input` meets its contract. The invariant: the buffer keeps its 4,096 bytes, and some pieces have been scanned from the start, with no
+-- word refused. The measure is the number of reads that are left.
+use mathlib.Core.Path.{_≡_, sym, _∙_, ap}
 use lib.ListN.{length}
 use borrow.Author.Needs.{needs}
-use Rattle.words.specs.Scanner.{Unfinished}
-use Rattle.words.proofs.Bounds.{sound-start, sound-piece, sound-finish}
-use Rattle.planner.specs.Scanned.{ScannedPart}
-use Rattle.planner.proofs.Scanning.{underway-start, underway-piece, underway-end}
+use Rattle.planner.specs.declared.Next.{Next}
+use Rattle.planner.proofs.Scanning.{Underway, underway-start, underway-read, input-answered, input-finished}
 use Rattle.planner.proofs.scan_input.Statement.{statement}
 use Rattle.planner.proofs.scan_input.Tie as tie
 
 abbrev Inv-loop : tie.InvT-loop
-Inv-loop list₀ piece₀ state₀ pieces-left₀ list piece state pieces-left = Unfinished (length list₀) state list × (length piece ≡ 4096) × ScannedPart list₀ state list
+Inv-loop list₀ piece₀ state₀ reads-left₀ list piece state reads-left = (length piece ≡ 4096) × Underway list₀ state list
 
 abbrev μ-loop : tie.MeasureT-loop
-μ-loop list₀ piece₀ state₀ pieces-left₀ list piece state pieces-left = pieces-left
+μ-loop list₀ piece₀ state₀ reads-left₀ list piece state reads-left = reads-left
 
 start-requires : tie.Need-start-requires Inv-loop μ-loop
 start-requires c κs = search needs
 
 loop-holds : tie.Need-loop-holds Inv-loop μ-loop
-loop-holds c = (sound-start _ (c .start .ensures), search needs, underway-start _ (c .start .ensures))
+loop-holds c = (search needs, underway-start _ (c .start .ensures))
 
 slice-aggregate-read : tie.Need-slice-aggregate-read Inv-loop μ-loop
 slice-aggregate-read c = search needs
@@ -34,41 +32,45 @@ slice-aggregate-count c = search needs
 count-requires : tie.Need-count-requires Inv-loop μ-loop
 count-requires c κs = search needs
 
-finish-requires : tie.Need-finish-requires Inv-loop μ-loop
-finish-requires c κs = search needs
-
-returns : tie.Need-returns Inv-loop μ-loop
-returns c =
-    let turn = c .before .before .before .before .before .before .before .before .before in
-    (sound-finish (turn .loop .inv .0) (c .finish .ensures), underway-end (turn .loop .inv .2) (c .finish .ensures))
-
 array-share-prefix-piece : tie.Need-array-share-prefix-piece Inv-loop μ-loop
 array-share-prefix-piece c = search needs
 
-slice-aggregate-piece : tie.Need-slice-aggregate-piece Inv-loop μ-loop
-slice-aggregate-piece c = c .before .before .count .ensures .0 .1
+slice-aggregate-after-read : tie.Need-slice-aggregate-after-read Inv-loop μ-loop
+slice-aggregate-after-read c = c .before .count .ensures .0 .1
 
-piece-requires : tie.Need-piece-requires Inv-loop μ-loop
-piece-requires c κs = search needs
+after-read-requires : tie.Need-after-read-requires Inv-loop μ-loop
+after-read-requires c κs = search needs
 
-sub-pieces-left : tie.Need-sub-pieces-left Inv-loop μ-loop
-sub-pieces-left c = search needs
+enum-known-next : tie.Need-enum-known-next Inv-loop μ-loop
+enum-known-next c = search needs
+
+enum-known-scanned : tie.Need-enum-known-scanned Inv-loop μ-loop
+enum-known-scanned c = search needs
+
+returns : tie.Need-returns Inv-loop μ-loop
+returns c =
+    let call = c .before .before .before in
+    let told = ap (λ (n : Next). (n, call .after-read .last .1 .1 .0)) (sym (c .before .scanned .given .1)) ∙ call .after-read .ensures in
+    let turn = call .before .before .before .before .before .before .before .before .before in
+    input-answered (turn .loop .inv .1) (turn .before .before .pre) _ told
+
+sub-reads-left : tie.Need-sub-reads-left Inv-loop μ-loop
+sub-reads-left c = search needs
 
 loop-less : tie.Need-loop-less Inv-loop μ-loop
 loop-less c = search needs
 
 loop-again : tie.Need-loop-again Inv-loop μ-loop
 loop-again c =
-    let turn = c .before .before .before .before .before .before .before .before .before .before in
-    (sound-piece (turn .loop .inv .0) _ (c .piece5 .ensures), search needs, underway-piece (turn .loop .inv .2) _ (c .piece5 .ensures))
+    let call = c .before .before .before in
+    let told = ap (λ (n : Next). (n, call .after-read .last .1 .1 .0)) (sym (c .before .next .given .1)) ∙ call .after-read .ensures in
+    (search needs, underway-read (call .before .before .before .before .before .before .before .before .before .loop .inv .1) _ told)
 
-finish-requires-2 : tie.Need-finish-requires-2 Inv-loop μ-loop
-finish-requires-2 c κs = search needs
+finish-requires : tie.Need-finish-requires Inv-loop μ-loop
+finish-requires c κs = search needs
 
 returns-2 : tie.Need-returns-2 Inv-loop μ-loop
-returns-2 c =
-    let turn = c .before .before .before in
-    (sound-finish (turn .loop .inv .0) (c .finish2 .ensures), underway-end (turn .loop .inv .2) (c .finish2 .ensures))
+returns-2 c = input-finished (c .before .before .before .loop .inv .1) (c .before .before .before .before .before .pre) (c .finish .ensures)
 
 pub scan-input-spec : {M : Type 1} → statement M
 scan-input-spec =
@@ -82,13 +84,14 @@ scan-input-spec =
     read-requires
     slice-aggregate-count
     count-requires
-    finish-requires
-    returns
     array-share-prefix-piece
-    slice-aggregate-piece
-    piece-requires
-    sub-pieces-left
+    slice-aggregate-after-read
+    after-read-requires
+    enum-known-next
+    enum-known-scanned
+    returns
+    sub-reads-left
     loop-less
     loop-again
-    finish-requires-2
+    finish-requires
     returns-2)
