@@ -2,10 +2,11 @@
 -- Assumes nothing.
 use mathlib.Core.Path.{_≡_, refl, sym, _∙_, ap, ap₂}
 use mathlib.Core.List.{List, [], _∷_, _++_, append-nil, append-assoc, foldl, foldl-append, flatten}
-use Prim.Native.Nat.{ℕ}
+use Prim.Native.Nat.{ℕ, _≤_}
 use native.Mathlib.Omega.{arith}
-use lib.ListN.{length}
+use lib.ListN.{length, take}
 use Rattle.buffers.specs.Put.{Put}
+use Rattle.buffers.proofs.Puts.{put-length, put-front}
 use Rattle.words.specs.Words.{refused, reading}
 use Rattle.words.specs.Scanner.{Progress, advanced, finished, readingOf, Sound}
 use Rattle.words.specs.declared.Scan.{Scan}
@@ -17,7 +18,7 @@ use Rattle.words.proofs.Bounds.{sound-start, sound-piece, sound-finish, refused
 use Rattle.report.specs.Report.{readingPrinted, output}
 use Rattle.planner.specs.declared.Next.{Next}
 use Rattle.planner.specs.declared.Next.the-variants.{Read, Answer}
-use Rattle.planner.specs.Input.{onward, afterRead, text, ScannedInput, AnsweredInput}
+use Rattle.planner.specs.Input.{onward, afterRead, text, ScannedInput, Answering}
 
 -- Some pieces of a text were scanned from its start, and no word of it is refused so far.
 pub record Underway (before : List ℕ) (state : Scan) (list : List ℕ) : Type 0 where
@@ -134,13 +135,16 @@ module _ {before : List ℕ} {state : Scan} {list : List ℕ} (so-far : Underway
     unfolding advanced
     input-finished e = finished-input [] e
 
--- The answer to a text that was scanned.
+-- What was put for a text that was scanned is the answer to it.
 pub input-put : {answer : Scanned} {list before after : List ℕ} {end : ℕ} → ScannedInput answer list
-    → Put before 0 (readingPrinted (readingOf (answer, list))) after end → AnsweredInput before after end
+    → Put before 0 (readingPrinted (readingOf (answer, list))) after end → (end ≤ length after) × Answering (take end after)
 unfolding output
 input-put scanned put =
-    record {
-      input = scanned .input;
-      put = rw (scanned .reads) at put;
-      suffices = λ place e rest. ap readingPrinted (refused-stays (text (scanned .input)) rest e ∙ sym e);
-    }
+    let printed = put-front put ∙ ap readingPrinted (scanned .reads) in (
+      omega (arith, put .fits, put-length put),
+      record {
+        input = scanned .input;
+        printed = printed;
+        suffices = λ place e rest. printed ∙ ap readingPrinted (e ∙ sym (refused-stays (text (scanned .input)) rest e));
+      },
+    )

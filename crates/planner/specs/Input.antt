@@ -2,7 +2,6 @@
 use mathlib.Core.Path.{_≡_}
 use mathlib.Core.List.{List, [], _∷_, _++_, flatten}
 use Prim.Native.Nat.{ℕ}
-use Rattle.buffers.specs.Put.{Put}
 use Rattle.words.specs.Words.{refused, reading}
 use Rattle.words.specs.Scanner.{Progress, advanced, finished, readingOf, Ended}
 use Rattle.words.specs.declared.Scan.{Scan}
@@ -40,8 +39,8 @@ pub record ScannedInput (answer : Scanned) (list : List ℕ) : Type 0 where
   pub reads : readingOf (answer, list) ≡ reading (text input)
   pub suffices : (place : ℕ) → answer ≡ Refused place → (rest : List ℕ) → reading (text input ++ rest) ≡ refused place
 
--- What was put into a buffer is what document 01 has printed for the text that was read; where it is refused, so it is whatever follows it.
-pub record AnsweredInput (before after : List ℕ) (end : ℕ) : Type 0 where
+-- These bytes are what document 01 has printed for the text that was read; where it is refused, so it is whatever follows it.
+pub record Answering (bytes : List ℕ) : Type 0 where
   pub input : Input
-  pub put : Put before 0 (output (text input)) after end
-  pub suffices : (place : ℕ) → reading (text input) ≡ refused place → (rest : List ℕ) → output (text input ++ rest) ≡ output (text input)
+  pub printed : bytes ≡ output (text input)
+  pub suffices : (place : ℕ) → reading (text input) ≡ refused place → (rest : List ℕ) → bytes ≡ output (text input ++ rest)

@@ -2,12 +2,12 @@
 // part is to read, as far as the answer needs it, to put the whole answer into one buffer, and to write that at once.
 ghost use mathlib.Core.Path.{_≡_};
 ghost use Prim.Native.Nat.{_≤_};
-ghost use lib.ListN.{length};
+ghost use lib.ListN.{length, take};
 ghost use Rattle.buffers.specs.Put.{Put};
 ghost use Rattle.sheets.specs.Outcome.{outcome};
 ghost use Rattle.words.specs.Scanner.{readingOf, Ended};
 ghost use Rattle.report.specs.Report.{outcomePrinted, readingPrinted, answerRoom};
-ghost use Rattle.planner.specs.Input.{afterRead, ScannedInput, AnsweredInput};
+ghost use Rattle.planner.specs.Input.{afterRead, ScannedInput, Answering};
 use libc::STDIN_FILENO;
 use libc::STDOUT_FILENO;
 use report::put_answer;
@@ -25,7 +25,14 @@ enum Next {
 fn main() {
     let mut out = answer_room();
     let end = answer_input(&mut out);
-    io::write_all(STDOUT_FILENO, &out[..end]);
+    write_answer(&out[..end]);
+}
+
+// Writes an answer, and nothing else.
+fn write_answer(bytes: &[u8])
+    requires { ⌜ Answering (now bytes) ⌝ }
+{
+    io::write_all(STDOUT_FILENO, bytes);
 }
 
 // Room for any answer. The contract tells the length alone, so that no proof writes the zeros out.
@@ -38,7 +45,7 @@ fn answer_room() -> [u8; 263682]
 // Puts what is printed for standard input, whole, at the front of a buffer.
 fn answer_input(out: &mut [u8]) -> usize
     requires { ⌜ answerRoom ≤ length (now out) ⌝ }
-    ensures { λ r. ⌜ AnsweredInput (now (out .entry)) (now (out .exit)) r ⌝ }
+    ensures { λ r. ⌜ (r ≤ length (now (out .exit))) × Answering (take r (now (out .exit))) ⌝ }
 {
     let mut list = [0u16; 32768];
     let scanned = scan_input(&mut list);

@@ -1,5 +1,6 @@
--- `planner::main` is safe: the answer ends within the buffer.
-use Rattle.buffers.proofs.Puts.{put-part}
+-- `planner::main` hands over the answer to be written, whole and alone: what `answer_input` put.
+use mathlib.Core.Path.{sym}
+use lib.Seq.{length-take-le}
 use borrow.Author.Needs.{needs}
 use Rattle.planner.proofs.main.Statement.{statement}
 use Rattle.planner.proofs.main.Tie as tie
@@ -16,11 +17,11 @@ answer-input-requires c κs = search needs
 array-share-prefix-out : tie.Need-array-share-prefix-out
 array-share-prefix-out c = search needs
 
-slice-aggregate-write-all : tie.Need-slice-aggregate-write-all
-slice-aggregate-write-all c = put-part (c .before .before .answer-input .ensures .put)
+slice-aggregate-write-answer : tie.Need-slice-aggregate-write-answer
+slice-aggregate-write-answer c = sym (length-take-le _ _ (c .before .before .answer-input .ensures .0))
 
-write-all-requires : tie.Need-write-all-requires
-write-all-requires c κs = search needs
+write-answer-requires : tie.Need-write-answer-requires
+write-answer-requires c κs = c .before .before .answer-input .ensures .1
 
 returns : tie.Need-returns
 returns c = search needs
@@ -33,6 +34,6 @@ main-spec =
     slice-aggregate-answer-input
     answer-input-requires
     array-share-prefix-out
-    slice-aggregate-write-all
-    write-all-requires
+    slice-aggregate-write-answer
+    write-answer-requires
     returns)
