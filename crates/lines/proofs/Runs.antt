@@ -7,8 +7,8 @@ use native.Mathlib.Omega.{arith}
 use lib.ListN.{length, take, drop, length-append, length-take, length-drop}
 use lib.Seq.{getD-take, getD-drop, drop-drop}
 use Rattle.buffers.specs.Put.{Bytes}
-use Rattle.lines.specs.Lines.{digits, spaced, line, runLines}
-use Rattle.lines.proofs.Digits.{digits-byte}
+use Rattle.lines.specs.Lines.{decimalDigits, spaced, line, runLines}
+use Rattle.lines.proofs.Decimals.{decimal-byte}
 
 next : (runs m : ℕ) → m + runs * m ≡ suc runs * m
 next runs m = omega (arith, suc-mul runs m)
@@ -22,9 +22,9 @@ runs-snoc (suc runs) m cells =
 
 -- Byte-sized numbers: the first, the rest and a part of them.
 module _ (n : ℕ) (ns : List ℕ) (small : Bytes (n ∷ ns)) where
-  first-short : length (digits n) ≤ 3
+  first-short : length (decimalDigits n) ≤ 3
   unfolding Bytes
-  first-short = digits-byte n (small 0 (omega arith))
+  first-short = decimal-byte n (small 0 (omega arith))
 
   rest-small : Bytes ns
   unfolding Bytes
@@ -43,14 +43,14 @@ drop-small m ns small k h = rw (getD-drop m ns k 0) (small (m + k) (omega (arith
 spaced-length : (ns : List ℕ) → Bytes ns → length (spaced ns) ≤ 4 * length ns
 spaced-length [] small = zero-le
 spaced-length (n ∷ ns) small =
-    omega (arith, length-append (digits n) (spaced ns), first-short n ns small, spaced-length ns (rest-small n ns small))
+    omega (arith, length-append (decimalDigits n) (spaced ns), first-short n ns small, spaced-length ns (rest-small n ns small))
 
 pub line-length : (ns : List ℕ) → Bytes ns → length (line ns) ≤ 4 * length ns + 1
 unfolding line
 line-length [] small = omega arith
 line-length (n ∷ ns) small =
-    let all = length-append (digits n ++ spaced ns) (10 ∷ []) in
-    omega (arith, all, length-append (digits n) (spaced ns), first-short n ns small, spaced-length ns (rest-small n ns small))
+    let all = length-append (decimalDigits n ++ spaced ns) (10 ∷ []) in
+    omega (arith, all, length-append (decimalDigits n) (spaced ns), first-short n ns small, spaced-length ns (rest-small n ns small))
 
 pub runs-length : (runs m : ℕ) (cells : List ℕ) → Bytes cells → length (runLines runs m cells) ≤ runs * (4 * m + 1)
 runs-length zero m cells small = zero-le

@@ -19,7 +19,7 @@ use Rattle.layout.specs.Bytes.{runOf, runsOf, zeros, padded}
 use Rattle.promise.specs.Promise.{suffice, planned, answerTo, tableBytes, levelBytes, Promise}
 use Rattle.layout.proofs.Bytes.{runs-length}
 use Rattle.layout.proofs.Sheets.{padded-length, cells-few}
-use Rattle.report.specs.Report.{answerPrinted, Fitting, Printable, outcomePrinted}
+use Rattle.report.specs.Report.{answerPrinted, TableInBuffers, Printable, outcomePrinted}
 use Rattle.report.proofs.Padded.{filled-printed}
 
 -- a table in buffers of n and m bytes

@@ -8,7 +8,7 @@ use lib.ListN.{length, take}
 use Rattle.buffers.specs.Put.{Put}
 use Rattle.buffers.proofs.Puts.{put-length, put-front}
 use Rattle.words.specs.Words.{refused, reading}
-use Rattle.words.specs.Scanner.{Progress, advanced, finished, readingOf, Sound}
+use Rattle.words.specs.Scanner.{Progress, advanced, finished, scannedReading, Unfinished}
 use Rattle.words.specs.declared.Scan.{Scan}
 use Rattle.words.specs.declared.Scan.the-variants.{Between, Inside, Failed}
 use Rattle.words.specs.declared.Scanned.{Scanned}
@@ -21,8 +21,8 @@ use Rattle.planner.specs.declared.Next.the-variants.{Read, Answer}
 use Rattle.planner.specs.Input.{onward, afterRead, text, ScannedInput, Answering}
 
 -- Some pieces of a text were scanned from its start, and no word of it is refused so far.
-pub record Underway (before : List ℕ) (state : Scan) (list : List ℕ) : Type 0 where
-  pub sound : Sound (length before) state list
+pub record ScannedPart (before : List ℕ) (state : Scan) (list : List ℕ) : Type 0 where
+  pub sound : Unfinished (length before) state list
   pub going : (place : ℕ) → state ≡ Failed place → ⊥
   pub pieces : List (List ℕ)
   pub reached : (state, list) ≡ foldl advanced (Between 0, before) pieces
@@ -30,7 +30,7 @@ pub record Underway (before : List ℕ) (state : Scan) (list : List ℕ) : Type 
 between-failed : {state : Scan} {count place : ℕ} → state ≡ Between count → state ≡ Failed place → ⊥
 between-failed e f = let z : _≡_ {A = ℕ} 0 1 = cc in omega arith
 
-pub underway-start : {state : Scan} (list : List ℕ) → state ≡ Between 0 → Underway list state list
+pub underway-start : {state : Scan} (list : List ℕ) → state ≡ Between 0 → ScannedPart list state list
 underway-start list e =
     record {
       sound = sound-start list e;
@@ -91,13 +91,13 @@ unfolding flatten
 flatten-last [] last = append-nil last
 flatten-last (piece ∷ pieces) last = ap (λ (l : List ℕ). piece ++ l) (flatten-last pieces last) ∙ sym (append-assoc piece (flatten pieces) last)
 
-module _ {before : List ℕ} {state : Scan} {list : List ℕ} (so-far : Underway before state list) where
+module _ {before : List ℕ} {state : Scan} {list : List ℕ} (so-far : ScannedPart before state list) where
   further : (bytes : List ℕ) → advanced (state, list) bytes ≡ foldl advanced (Between 0, before) (so-far .pieces ++ (bytes ∷ []))
   further bytes =
       ap (λ (p : Progress). advanced p bytes) (so-far .reached)
       ∙ sym (foldl-append advanced (Between 0, before) (so-far .pieces) (bytes ∷ []))
 
-  pub underway-read : (bytes : List ℕ) {next : Scan} {list′ : List ℕ} → (Read next, list′) ≡ afterRead (state, list) bytes → Underway before next list′
+  pub underway-read : (bytes : List ℕ) {next : Scan} {list′ : List ℕ} → (Read next, list′) ≡ afterRead (state, list) bytes → ScannedPart before next list′
   underway-read bytes e =
       let told = read-on (state, list) bytes e in
       record {
@@ -110,22 +110,22 @@ module _ {before : List ℕ} {state : Scan} {list : List ℕ} (so-far : Underway
   module _ (places : length before ≡ 32768) where
     none-refused : (place : ℕ) → reading (flatten (so-far .pieces)) ≡ refused place → ⊥
     none-refused place e =
-        let whole = ap (λ (p : Progress). readingOf (finished p)) (so-far .reached) ∙ any-cut before places (so-far .pieces) in
+        let whole = ap (λ (p : Progress). scannedReading (finished p)) (so-far .reached) ∙ any-cut before places (so-far .pieces) in
         so-far .going place (refused-failed state list (so-far .sound) (whole ∙ e))
 
     -- The text is finished after some bytes more.
     finished-input : (bytes : List ℕ) {answer : Scanned} {list′ : List ℕ} → (answer, list′) ≡ finished (advanced (state, list) bytes) → ScannedInput answer list′
     finished-input bytes {answer} {list′} e =
-        let reads : readingOf (answer, list′) ≡ reading (flatten (so-far .pieces) ++ bytes) =
-        ap readingOf e
-        ∙ ap (λ (p : Progress). readingOf (finished p)) (further bytes)
+        let reads : scannedReading (answer, list′) ≡ reading (flatten (so-far .pieces) ++ bytes) =
+        ap scannedReading e
+        ∙ ap (λ (p : Progress). scannedReading (finished p)) (further bytes)
         ∙ any-cut before places (so-far .pieces ++ (bytes ∷ []))
         ∙ ap reading (flatten-last (so-far .pieces) bytes) in
         record {
           ended = rw places at (sound-finish (sound-piece (so-far .sound) bytes refl) e);
           input = record { earlier = so-far .pieces; last = bytes; called-for = none-refused };
           reads = reads;
-          suffices = λ place is rest. refused-stays _ rest (sym reads ∙ ap (λ (r : Scanned). readingOf (r, list′)) is);
+          suffices = λ place is rest. refused-stays _ rest (sym reads ∙ ap (λ (r : Scanned). scannedReading (r, list′)) is);
         }
 
     pub input-answered : (bytes : List ℕ) {answer : Scanned} {list′ : List ℕ} → (Answer answer, list′) ≡ afterRead (state, list) bytes → ScannedInput answer list′
@@ -137,7 +137,7 @@ module _ {before : List ℕ} {state : Scan} {list : List ℕ} (so-far : Underway
 
 -- What was put for a text that was scanned is the answer to it.
 pub input-put : {answer : Scanned} {list before after : List ℕ} {end : ℕ} → ScannedInput answer list
-    → Put before 0 (readingPrinted (readingOf (answer, list))) after end → (end ≤ length after) × Answering (take end after)
+    → Put before 0 (readingPrinted (scannedReading (answer, list))) after end → (end ≤ length after) × Answering (take end after)
 unfolding output
 input-put scanned put =
     let printed = put-front put ∙ ap readingPrinted (scanned .reads) in (

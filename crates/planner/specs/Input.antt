@@ -3,7 +3,7 @@ use mathlib.Core.Path.{_≡_}
 use mathlib.Core.List.{List, [], _∷_, _++_, flatten}
 use Prim.Native.Nat.{ℕ}
 use Rattle.words.specs.Words.{refused, reading}
-use Rattle.words.specs.Scanner.{Progress, advanced, finished, readingOf, Ended}
+use Rattle.words.specs.Scanner.{Progress, advanced, finished, scannedReading, Ended}
 use Rattle.words.specs.declared.Scan.{Scan}
 use Rattle.words.specs.declared.Scan.the-variants.{Between, Inside, Failed}
 use Rattle.words.specs.declared.Scanned.{Scanned}
@@ -36,7 +36,7 @@ text input = flatten (input .earlier) ++ input .last
 pub record ScannedInput (answer : Scanned) (list : List ℕ) : Type 0 where
   pub ended : Ended 32768 answer list
   pub input : Input
-  pub reads : readingOf (answer, list) ≡ reading (text input)
+  pub reads : scannedReading (answer, list) ≡ reading (text input)
   pub suffices : (place : ℕ) → answer ≡ Refused place → (rest : List ℕ) → reading (text input ++ rest) ≡ refused place
 
 -- These bytes are what document 01 has printed for the text that was read; where it is refused, so it is whatever follows it.

@@ -5,7 +5,7 @@ ghost use Prim.Native.Nat.{_≤_};
 ghost use lib.ListN.{length, take};
 ghost use Rattle.buffers.specs.Put.{Put};
 ghost use Rattle.sheets.specs.Outcome.{outcome};
-ghost use Rattle.words.specs.Scanner.{readingOf, Ended};
+ghost use Rattle.words.specs.Scanner.{scannedReading, Ended};
 ghost use Rattle.report.specs.Report.{outcomePrinted, readingPrinted, answerRoom};
 ghost use Rattle.planner.specs.Input.{afterRead, ScannedInput, Answering};
 use libc::STDIN_FILENO;
@@ -96,7 +96,7 @@ fn after_read(state: Scan, bytes: &[u8], list: &mut [u16; 32768]) -> Next
 fn put_scanned(scanned: Scanned, list: &[u16], out: &mut [u8]) -> usize
     requires { ⌜ Ended 32768 scanned (now list) ⌝ }
     requires { ⌜ answerRoom ≤ length (now out) ⌝ }
-    ensures { λ r. ⌜ Put (now (out .entry)) 0 (readingPrinted (readingOf (scanned, now (list .entry)))) (now (out .exit)) r ⌝ }
+    ensures { λ r. ⌜ Put (now (out .entry)) 0 (readingPrinted (scannedReading (scanned, now (list .entry)))) (now (out .exit)) r ⌝ }
 {
     match scanned {
         Scanned::Numbers { count } => put_plan(&list[..count], out),

@@ -10,11 +10,11 @@ use lib.ListN.{length, take, drop, length-append, length-take}
 use lib.Seq.{length-take-le}
 use Rattle.buffers.specs.Put.{Put, Bytes}
 use Rattle.buffers.proofs.Puts.{put-none, put-join, put-length}
-use Rattle.lines.specs.Lines.{digits, line, runLines, printed}
-use Rattle.lines.proofs.Digits.{digits-length}
+use Rattle.lines.specs.Lines.{decimalDigits, line, runLines, printed}
+use Rattle.lines.proofs.Decimals.{decimal-length}
 use Rattle.lines.proofs.Rows.{line-pair}
 use Rattle.lines.proofs.Runs.{runs-snoc, take-small, line-length, runs-length}
-use Rattle.report.specs.Report.{answerRoom, Fitting}
+use Rattle.report.specs.Report.{answerRoom, TableInBuffers}
 
 -- The first n of some runs are put; the next starts at the place `start` among the cells.
 pub record RunsPut (columns : ℕ) (cells a : List ℕ) (at n : ℕ) (b : List ℕ) (end start : ℕ) : Type 0 where
@@ -57,16 +57,16 @@ module _ {columns : ℕ} {cells a : List ℕ} {at n : ℕ} {b : List ℕ} {end s
       }
 
 -- A table within the limits: the size and the level counts are put, then the runs.
-module _ {runs columns : ℕ} {levels cells : List ℕ} (fits : Fitting runs columns levels cells) where
+module _ {runs columns : ℕ} {levels cells : List ℕ} (fits : TableInBuffers runs columns levels cells) where
   pub many : length (take columns levels) ≡ columns
   many = length-take-le columns levels (fits .levels-there)
 
   size-length : length (line (runs ∷ columns ∷ [])) ≤ 8
   size-length =
-      let numbers = length-append (digits runs) (32 ∷ digits columns) in
-      let whole = length-append (digits runs ++ (32 ∷ digits columns)) (10 ∷ []) in
-      let first = digits-length 2 runs (omega (arith, fits .few)) in
-      let second = digits-length 2 columns (omega (arith, fits .narrow)) in
+      let numbers = length-append (decimalDigits runs) (32 ∷ decimalDigits columns) in
+      let whole = length-append (decimalDigits runs ++ (32 ∷ decimalDigits columns)) (10 ∷ []) in
+      let first = decimal-length 2 runs (omega (arith, fits .few)) in
+      let second = decimal-length 2 columns (omega (arith, fits .narrow)) in
       rw line-pair (omega arith)
 
   runs-wide : runs * (4 * columns + 1) ≤ 262656

@@ -38,7 +38,7 @@ lineCount (Filled runs columns) = runs + 2
 lineCount (Refused why) = 1
 
 -- A table within the limits that lies in its buffers.
-pub record Fitting (runs columns : ℕ) (levels cells : List ℕ) : Type 0 where
+pub record TableInBuffers (runs columns : ℕ) (levels cells : List ℕ) : Type 0 where
   pub few : runs ≤ 512
   pub narrow : columns ≤ 128
   pub levels-there : columns ≤ length levels

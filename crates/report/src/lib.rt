@@ -6,7 +6,7 @@ ghost use Prim.Native.Nat.{_+_, _*_, _≤_, _<_};
 ghost use lib.ListN.{length, getD, take};
 ghost use Rattle.buffers.specs.Put.{Put};
 ghost use Rattle.lines.specs.Lines.{runLines, printed, printedLines};
-ghost use Rattle.report.specs.Report.{refusalLine, answerPrinted, answerRoom, answerLines, lineCount, Printable, Fitting};
+ghost use Rattle.report.specs.Report.{refusalLine, answerPrinted, answerRoom, answerLines, lineCount, Printable, TableInBuffers};
 use lines::put_pair;
 use lines::put_refusal;
 use lines::put_row;
@@ -68,7 +68,7 @@ fn put_runs(buf: &mut [u8], at: usize, runs: usize, columns: usize, cells: &[u8]
 // A table of so many runs and columns: the size, the level counts and the runs.
 fn put_table(buf: &mut [u8], runs: usize, columns: usize, levels: &[u8], cells: &[u8]) -> usize
     requires { ⌜ answerRoom ≤ length (now buf) ⌝ }
-    requires { ⌜ Fitting runs columns (now levels) (now cells) ⌝ }
+    requires { ⌜ TableInBuffers runs columns (now levels) (now cells) ⌝ }
     ensures { λ r. ⌜ Put (now (buf .entry)) 0 (printed runs (take columns (now (levels .entry))) (now (cells .entry))) (now (buf .exit)) r ⌝ }
 {
     let after_size = put_pair(buf, 0, runs, columns);

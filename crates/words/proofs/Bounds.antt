@@ -9,7 +9,7 @@ use borrow.Author.Tests.{ltb-true, lt-ltb}
 use lib.Dec.{leb, ltb}
 use lib.ListN.{length, set, length-set}
 use Rattle.words.specs.Words.{isGap, isDigit, refused}
-use Rattle.words.specs.Scanner.{grown, begun, stored, resumed, Progress, stepOf, stepped, advanced, finishOf, finished, readingOf, taken, total, Sound, Ended}
+use Rattle.words.specs.Scanner.{grown, begun, stored, resumed, Progress, scanStep, stepped, advanced, finishOf, finished, scannedReading, taken, placeAtEnd, Unfinished, Ended}
 use Rattle.words.specs.declared.Scan.{Scan}
 use Rattle.words.specs.declared.Scan.the-variants.{Between, Inside, Failed}
 use Rattle.words.specs.declared.Scanned.{Scanned}
@@ -23,7 +23,7 @@ grown-taken count value byte h =
     let next = value * 10 + (byte - 48) in
     by-cases (isDigit byte && leb next 65535) (λ t. rw t (omega arith)) (λ t. rw t (omega arith))
 
-resumed-taken : (r : Scanned) → taken (resumed r) ≡ total r
+resumed-taken : (r : Scanned) → taken (resumed r) ≡ placeAtEnd r
 resumed-taken (Numbers count) = refl
 resumed-taken (Refused at) = refl
 
@@ -33,10 +33,10 @@ unfolding stored
 stored-there count value list h = rw (lt-ltb count 32768 h)
 
 module _ {places : ℕ} where
-  sound-grown : (count value byte : ℕ) (list : List ℕ) → count < 32768 → length list ≡ places → Sound places (grown count value byte) list
+  sound-grown : (count value byte : ℕ) (list : List ℕ) → count < 32768 → length list ≡ places → Unfinished places (grown count value byte) list
   sound-grown count value byte list h k = record { low = grown-taken count value byte h; kept = k }
 
-  sound-begun : (count byte : ℕ) (list : List ℕ) → count ≤ 32768 → length list ≡ places → Sound places (begun count byte) list
+  sound-begun : (count byte : ℕ) (list : List ℕ) → count ≤ 32768 → length list ≡ places → Unfinished places (begun count byte) list
   unfolding begun
   sound-begun count byte list h k =
       by-cases (ltb count 32768) (λ l. rw l (sound-grown count 0 byte list (ltb-true count 32768 l) k)) (λ l. rw l record { low = h; kept = k })
@@ -44,10 +44,10 @@ module _ {places : ℕ} where
   sound-stored : (count value : ℕ) (list : List ℕ) → count < 32768 → length list ≡ places → Ended places (stored count value list .0) (stored count value list .1)
   sound-stored count value list h k = rw (stored-there count value list h) record { low = omega arith; kept = length-set list count value ∙ k }
 
-  sound-resumed : (r : Scanned) (list : List ℕ) → Ended places r list → Sound places (resumed r) list
+  sound-resumed : (r : Scanned) (list : List ℕ) → Ended places r list → Unfinished places (resumed r) list
   sound-resumed r list e = record { low = rw (resumed-taken r) (e .low); kept = e .kept }
 
-  sound-step : (s : Scan) (list : List ℕ) (byte : ℕ) → Sound places s list → Sound places (stepOf s list byte .0) (stepOf s list byte .1)
+  sound-step : (s : Scan) (list : List ℕ) (byte : ℕ) → Unfinished places s list → Unfinished places (scanStep s list byte .0) (scanStep s list byte .1)
   sound-step (Between count) list byte h = by-cases (isGap byte) (λ g. rw g h) (λ g. rw g (sound-begun count byte list (h .low) (h .kept)))
   sound-step (Inside count value) list byte h =
       by-cases (isGap byte) (λ g. rw g (sound-resumed _ _ (sound-stored count value list (omega (arith, h .low)) (h .kept))))
@@ -81,7 +81,7 @@ pub ended-room : {places count : ℕ} {r : Scanned} {list : List ℕ} → Ended 
 ended-room e n h = omega (arith, rw n at (e .low), e .kept)
 
 -- Where a text is refused, the scanner has failed already, so that a program need not read on to find out.
-pub refused-failed : {places : ℕ} (s : Scan) (list : List ℕ) {at : ℕ} → Sound places s list → readingOf (finished (s, list)) ≡ refused at → s ≡ Failed at
+pub refused-failed : {places : ℕ} (s : Scan) (list : List ℕ) {at : ℕ} → Unfinished places s list → scannedReading (finished (s, list)) ≡ refused at → s ≡ Failed at
 unfolding finished
 refused-failed (Between count) list h e = absurd (not-refused e)
 refused-failed (Inside count value) list h e = absurd (not-refused (rw (stored-there count value list (omega (arith, h .low))) at e))

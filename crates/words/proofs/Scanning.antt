@@ -11,7 +11,7 @@ use lib.Dec.{ltb}
 use lib.ListN.{length, take, set, length-set}
 use lib.Seq.{take-suc-set, append-snoc}
 use Rattle.words.specs.Words.{isGap, words, decimal, isNumber, Reading, numbers, refused, prefixed, readWords, reading}
-use Rattle.words.specs.Scanner.{grown, begun, stored, resumed, Progress, stepped, advanced, finishOf, finished, readingOf}
+use Rattle.words.specs.Scanner.{grown, begun, stored, resumed, Progress, stepped, advanced, finishOf, finished, scannedReading}
 use Rattle.words.specs.declared.Scan.{Scan}
 use Rattle.words.specs.declared.Scan.the-variants.{Between, Inside, Failed}
 use Rattle.words.proofs.Steps.{skips, begins, ends, grows, stays}
@@ -135,6 +135,6 @@ module _ (list : List ℕ) (places : length list ≡ 32768) where
   pub any-cut : (pieces : List (List ℕ)) → scannedReading (finished (foldl advanced (Between 0, list) pieces)) ≡ reading (flatten pieces)
   unfolding reading finished advanced
   any-cut pieces =
-      ap (λ (p : Progress). readingOf (finished p)) (pieces-joined (Between 0, list) pieces)
+      ap (λ (p : Progress). scannedReading (finished p)) (pieces-joined (Between 0, list) pieces)
       ∙ reads-on (flatten pieces) 0 [] list places tt tt
       ∙ after-nil (reading (flatten pieces))

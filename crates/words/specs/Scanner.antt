@@ -34,9 +34,9 @@ abbrev pub Progress : Type 0
 Progress = Scan × List ℕ
 
 -- After one byte. A gap after a word ends it.
-abbrev pub stepOf : Scan → List ℕ → ℕ → Progress
-stepOf (Between count) list byte = (cond (isGap byte) (Between count) (begun count byte), list)
-stepOf (Inside count value) list byte =
+abbrev pub scanStep : Scan → List ℕ → ℕ → Progress
+scanStep (Between count) list byte = (cond (isGap byte) (Between count) (begun count byte), list)
+scanStep (Inside count value) list byte =
     cond (isGap byte) (resumed (stored count value list .0), stored count value list .1) (grown count value byte, list)
 scanStep (Failed place) list byte = (Failed place, list)
 
@@ -72,7 +72,7 @@ placeAtEnd (Numbers count) = count
 placeAtEnd (Refused at) = at
 
 -- A scanner that takes at most 32,768 of so many places: under way, and at its end.
-pub record Sound (places : ℕ) (s : Scan) (list : List ℕ) : Type 0 where
+pub record Unfinished (places : ℕ) (s : Scan) (list : List ℕ) : Type 0 where
   pub low : taken s ≤ 32768
   pub kept : length list ≡ places
 

@@ -4,12 +4,12 @@ use mathlib.Core.Path.{_≡_, sym, _∙_, ap}
 use lib.ListN.{length}
 use borrow.Author.Needs.{needs}
 use Rattle.planner.specs.declared.Next.{Next}
-use Rattle.planner.proofs.Scanning.{Underway, underway-start, underway-read, input-answered, input-finished}
+use Rattle.planner.proofs.Scanning.{ScannedPart, underway-start, underway-read, input-answered, input-finished}
 use Rattle.planner.proofs.scan_input.Statement.{statement}
 use Rattle.planner.proofs.scan_input.Tie as tie
 
 abbrev Inv-loop : tie.InvT-loop
-Inv-loop list₀ piece₀ state₀ reads-left₀ list piece state reads-left = (length piece ≡ 4096) × Underway list₀ state list
+Inv-loop list₀ piece₀ state₀ reads-left₀ list piece state reads-left = (length piece ≡ 4096) × ScannedPart list₀ state list
 
 abbrev μ-loop : tie.MeasureT-loop
 μ-loop list₀ piece₀ state₀ reads-left₀ list piece state reads-left = reads-left
