@@ -10,7 +10,7 @@ ghost use Rattle.report.specs.Report.{outcomePrinted, readingPrinted, answerRoo
 ghost use Rattle.planner.specs.Input.{afterRead, ScannedInput, Answering};
 use libc::STDIN_FILENO;
 use libc::STDOUT_FILENO;
-use report::put_answer;
+use printing::plan_and_put;
 use report::put_refused;
 use sheets::answer::Refusal;
 use words::Scan;
@@ -112,6 +112,6 @@ fn put_plan(list: &[u16], out: &mut [u8]) -> usize
     let mut table = [0u8; 65536];
     let mut levels = [0u8; 128];
     let mut scratch = [0u8; 65536];
-    let answer = construction::plan(list, &mut table, &mut levels, &mut scratch);
-    put_answer(out, answer, &levels, &table)
+    let printed = plan_and_put(list, &mut table, &mut levels, &mut scratch, out);
+    printed.end
 }
