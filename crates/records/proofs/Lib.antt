@@ -1,1 +1,3 @@
-pub mod Room
+pub mod Comparing
+pub mod Texts
+pub mod Judging

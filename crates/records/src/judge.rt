@@ -1,14 +1,19 @@
 // One order and its stored answer.
-ghost use Prim.Native.Nat.{_≤_};
-ghost use lib.ListN.{length};
-ghost use Rattle.words.specs.Scanner.{Ended};
-use crate::bytes::fill;
+ghost use mathlib.Core.Path.{_≡_};
+ghost use mathlib.Core.List.{_∷_};
+ghost use Prim.Native.Nat.{_+_, _*_, _≤_, min};
+ghost use lib.ListN.{length, getD};
+ghost use Rattle.words.specs.Words.{reading, Reading};
+ghost use Rattle.words.specs.Scanner.{Ended, readingOf};
+ghost use Rattle.sheets.specs.Steps.{Outcome};
+ghost use Rattle.construction.specs.Promise.{planned};
+ghost use Rattle.report.specs.Report.{answerRoom, Printable};
+ghost use Rattle.records.specs.Bytes.{sameBytes};
+ghost use Rattle.records.specs.Record.{lengthsIn, lengthsGiven, cameTo, answerNumber, judgedAs, judged, restZero};
 use crate::bytes::find;
-use crate::bytes::stands_at;
+use crate::bytes::same;
 use crate::bytes::zero_from;
-use construction::plan;
-use report::line_count;
-use report::put_line;
+use printing::plan_and_put;
 use report::put_refused;
 use sheets::answer::Answer;
 use sheets::answer::Refusal;
@@ -31,59 +36,109 @@ pub(crate) struct Judged {
 
 // The numbers of a text.
 fn scan(text: &[u8], list: &mut [u16; 32768]) -> Scanned
+    requires { ⌜ length (now list) ≡ 32768 ⌝ }
     ensures { λ r. ⌜ Ended (length (now (list .entry))) r (now (list .exit)) ⌝ }
+    ensures { λ r. ⌜ readingOf (r, now (list .exit)) ≡ reading (now (text .entry)) ⌝ }
 {
     Scan::start().piece(text, list).finish(list)
 }
 
+// The number at a place of a list, or 0 after its end.
+fn number_at(list: &[u16], at: usize) -> usize
+    ensures { λ r. ⌜ r ≡ getD (now (list .entry)) at 0 ⌝ }
+    ensures { λ r. ⌜ r ≤ 65535 ⌝ }
+{
+    if at < list.len() {
+        list[at] as usize
+    } else {
+        0
+    }
+}
+
 // A length written as two numbers.
-fn length_of(high: u16, low: u16) -> usize {
-    high as usize * 65536 + low as usize
+fn length_at(list: &[u16], at: usize) -> usize
+    requires { ⌜ at ≤ 4 ⌝ }
+    ensures { λ r. ⌜ r ≡ getD (now (list .entry)) at 0 * 65536 + getD (now (list .entry)) (at + 1) 0 ⌝ }
+{
+    number_at(list, at) * 65536 + number_at(list, at + 1)
+}
+
+// The lengths that some numbers give.
+fn lengths_in(list: &[u16]) -> Lengths
+    ensures { λ r. ⌜ r ≡ lengthsIn (now (list .entry)) ⌝ }
+{
+    Lengths {
+        table: length_at(list, 0),
+        levels: length_at(list, 2),
+        scratch: length_at(list, 4),
+    }
 }
 
 // The lengths that a line gives.
-pub(crate) fn lengths_of(line: &[u8]) -> Lengths {
+pub(crate) fn lengths_of(line: &[u8]) -> Lengths
+    ensures { λ r. ⌜ r ≡ lengthsGiven (now (line .entry)) ⌝ }
+{
     let mut list = [0u16; 32768];
-    scan(line, &mut list);
-    Lengths {
-        table: length_of(list[0], list[1]),
-        levels: length_of(list[2], list[3]),
-        scratch: length_of(list[4], list[5]),
+    match scan(line, &mut list) {
+        Scanned::Numbers { count } => lengths_in(&list[..count]),
+        Scanned::Refused { place: _ } => lengths_in(&list[..0]),
     }
 }
 
 // A length that there is room for.
 fn within(length: usize, room: usize) -> usize
-    ensures { λ r. ⌜ r ≤ room ⌝ }
+    ensures { λ r. ⌜ r ≡ min length room ⌝ }
 {
     if length < room { length } else { room }
 }
 
 // A record: an order up to "=", the end of that line, and what is printed of it.
-pub(crate) fn judge(record: &[u8], lengths: Lengths) -> Judged {
-    let equals = find(record, 0, b'=');
-    if record.len() - equals < 2 {
-        return Judged {
-            number: 12,
-            same: false,
-        };
-    }
-    let stored = &record[equals + 2..];
+pub(crate) fn judge(bytes: &[u8], lengths: Lengths) -> Judged
+    ensures { λ r. ⌜ r ≡ judged (now (bytes .entry)) lengths ⌝ }
+{
+    let end = find(bytes, b'=');
     let mut list = [0u16; 32768];
-    match scan(&record[..equals], &mut list) {
-        Scanned::Numbers { count } => judge_list(&list[..count], stored, lengths),
-        Scanned::Refused { place } => Judged {
-            number: 2,
-            same: refusal_prints(Refusal::Unreadable { place }, stored),
-        },
+    match scan(&bytes[..end], &mut list) {
+        Scanned::Numbers { count } => judge_list(&list[..count], &bytes[end..], lengths),
+        Scanned::Refused { place } => judge_unread(place, &bytes[end..]),
     }
 }
 
-// An order, in buffers of the lengths that are asked for.
-fn judge_list(list: &[u16], stored: &[u8], lengths: Lengths) -> Judged {
-    let mut table = [0u8; 66048];
-    let mut levels = [0u8; 256];
-    let mut scratch = [0u8; 66048];
+// An order with a word that is refused.
+fn judge_unread(place: usize, stored: &[u8]) -> Judged
+    ensures { λ r. ⌜ r ≡ judgedAs (Outcome.refused (Refusal.Unreadable place)) (now (stored .entry)) ⌝ }
+{
+    let mut line = [0u8; 1024];
+    let end = put_refused(&mut line, Refusal::Unreadable { place });
+    Judged {
+        number: 2,
+        same: is_stored(stored, &line[..end]),
+    }
+}
+
+// Whether "=", the end of the line and what is printed are what is stored.
+fn is_stored(stored: &[u8], printed: &[u8]) -> bool
+    ensures { λ r. ⌜ r ≡ sameBytes (now (stored .entry)) (61 ∷ 10 ∷ now (printed .entry)) ⌝ }
+{
+    if stored.len() < 2 {
+        return false;
+    }
+    if stored[0] != b'=' {
+        return false;
+    }
+    if stored[1] != b'\n' {
+        return false;
+    }
+    same(&stored[2..], printed)
+}
+
+// An order, in buffers of the lengths that are asked for, which are full of other bytes before.
+fn judge_list(list: &[u16], stored: &[u8], lengths: Lengths) -> Judged
+    ensures { λ r. ⌜ r ≡ judgedAs (cameTo (Reading.numbers (now (list .entry))) lengths) (now (stored .entry)) ⌝ }
+{
+    let mut table = [170u8; 66048];
+    let mut levels = [187u8; 256];
+    let mut scratch = [204u8; 66048];
     let a = within(lengths.table, 66048);
     let b = within(lengths.levels, 256);
     let c = within(lengths.scratch, 66048);
@@ -96,90 +151,60 @@ fn judge_list(list: &[u16], stored: &[u8], lengths: Lengths) -> Judged {
     )
 }
 
-// The same in these buffers, which are full of other bytes before.
+// Room for what is printed of an order. The contract tells the length alone, so that no proof writes the zeros out.
+fn printed_room() -> [u8; 263682]
+    ensures { λ r. ⌜ answerRoom ≡ length r ⌝ }
+{
+    [0; 263682]
+}
+
+// The same in these buffers. That the scratch and all bytes after the table and its level counts are zero is promised by `plan`, and so decides
+// nothing here; it is looked at all the same, to have the compiled code tried.
 fn judge_in(
     list: &[u16],
     stored: &[u8],
     table: &mut [u8],
     levels: &mut [u8],
     scratch: &mut [u8],
-) -> Judged {
-    fill(table, 170);
-    fill(levels, 187);
-    fill(scratch, 204);
-    let answer = plan(list, table, levels, scratch);
-    let clear = zero_from(scratch, 0);
-    let found = judge_answer(answer, levels, table, stored);
+) -> Judged
+    ensures { λ r. ⌜ r ≡ judgedAs (planned (now (list .entry)) (length (now (table .entry))) (length (now (levels .entry))) (length (now (scratch .entry)))) (now (stored .entry)) ⌝ }
+{
+    let mut printed = printed_room();
+    let done = plan_and_put(list, table, levels, scratch, &mut printed);
+    let answer = done.answer;
+    let end = done.end;
+    let clear = zero_from(scratch, 0) & rest_is_zero(answer, levels, table);
     Judged {
-        number: found.number,
-        same: clear && found.same,
+        number: number_of(answer),
+        same: clear & is_stored(stored, &printed[..end]),
     }
 }
 
-// An answer, with what it left in the level list and the run table.
-fn judge_answer(answer: Answer, levels: &[u8], table: &[u8], stored: &[u8]) -> Judged {
+// 01's number of a refusal, and 0 for an order that was filled.
+fn number_of(answer: Answer) -> usize
+    ensures { λ r. ⌜ r ≡ answerNumber answer ⌝ }
+{
     match answer {
-        Answer::Filled { runs, columns } => Judged {
-            number: 0,
-            same: table_stands(runs, columns, levels, table, stored),
-        },
+        Answer::Filled {
+            runs: _,
+            columns: _,
+        } => 0,
         Answer::Refused(why) => {
             let numbers = numbers_of(why);
-            Judged {
-                number: numbers[0],
-                same: zero_from(levels, 0) && zero_from(table, 0) && refusal_prints(why, stored),
-            }
+            numbers[0]
         }
     }
 }
 
-// Whether the line of a refusal is what is stored.
-fn refusal_prints(why: Refusal, stored: &[u8]) -> bool {
-    let mut line = [0u8; 1024];
-    let end = put_refused(&mut line, why);
-    stored.len() == end && stands_at(stored, 0, &line[..end])
-}
-
-// Whether a table is what is stored, and all bytes after it and after its level counts are zero.
-fn table_stands(runs: usize, columns: usize, levels: &[u8], table: &[u8], stored: &[u8]) -> bool {
-    if 512 < runs {
-        return false;
-    }
-    if 128 < columns {
-        return false;
-    }
-    if levels.len() < 128 {
-        return false;
-    }
-    if table.len() < 65536 {
-        return false;
-    }
-    if !zero_from(levels, columns) {
-        return false;
-    }
-    if !zero_from(table, runs * columns) {
-        return false;
-    }
-    table_prints(runs, columns, levels, table, stored)
-}
-
-// Whether the lines of a table are what is stored.
-fn table_prints(runs: usize, columns: usize, levels: &[u8], table: &[u8], stored: &[u8]) -> bool
-    requires { ⌜ (runs ≤ 512) × (columns ≤ 128) ⌝ }
-    requires { ⌜ (128 ≤ length (now levels)) × (65536 ≤ length (now table)) ⌝ }
+// Whether all bytes after those of an answer are zero.
+fn rest_is_zero(answer: Answer, levels: &[u8], table: &[u8]) -> bool
+    requires { ⌜ Printable answer (now levels) (now table) ⌝ }
+    ensures { λ r. ⌜ r ≡ restZero answer (now (levels .entry)) (now (table .entry)) ⌝ }
 {
-    let answer = Answer::Filled { runs, columns };
-    let mut line = [0u8; 1024];
-    let count = line_count(answer);
-    let mut at = 0;
-    let mut i = 0;
-    while i < count {
-        let end = put_line(&mut line, i, answer, levels, table);
-        if !stands_at(stored, at, &line[..end]) {
-            return false;
+    match answer {
+        Answer::Filled { runs, columns } => {
+            zero_from(levels, columns) & zero_from(table, runs * columns)
         }
-        at += end;
-        i += 1;
+        Answer::Refused(_) => zero_from(levels, 0) & zero_from(table, 0),
     }
-    at == stored.len()
 }

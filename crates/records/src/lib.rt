@@ -19,13 +19,17 @@ mod judge; // judge.rt: one order and its stored answer
 mod summary; // summary.rt: what is counted and printed
 
 ghost use mathlib.Core.Path.{_≡_};
+ghost use mathlib.Core.List.{[]};
 ghost use Prim.Native.Nat.{_≤_};
 ghost use lib.ListN.{length};
+ghost use Rattle.records.specs.Text.{Compared, endsItem, afterRecord, afterItem, afterByte, afterText};
+ghost use Rattle.records.specs.State.{progress, progressOf};
 use judge::Lengths;
 use judge::judge;
 use judge::lengths_of;
 use libc::STDIN_FILENO;
 use summary::count;
+use summary::one_more;
 use summary::print_counts;
 use summary::print_difference;
 
@@ -35,12 +39,11 @@ pub struct Tally {
     pub differing: usize,
 }
 
-// How far a text has been compared: the records so far, how many bytes of the next item are held, and the lengths of the buffers for it.
+// How far a text has been compared: what is counted so far, the lengths of the buffers for the next record, and how many bytes of the next item are held.
 struct State {
-    records: usize,
-    differing: usize,
-    held: usize,
+    tally: Tally,
     lengths: Lengths,
+    held: usize,
 }
 
 // Room for an item. The contract tells the length alone, so that no proof writes the zeros out.
@@ -53,20 +56,23 @@ fn item_room() -> [u8; 262144]
 // Compares the orders of standard input, and prints how many came to each answer and which of them differ. A proved loop has to end, and nothing
 // says that the input does, so the pieces in which it is read are counted down from a number that no input reaches.
 pub fn compare_all() -> Tally
+    ensures { λ r. ⌜ Compared r ⌝ }
     ensures { λ r. ⌜ r .differing ≤ r .records ⌝ }
 {
     let mut piece = [0u8; 4096];
     let mut item = item_room();
-    let mut counts = [0u64; 12];
+    let mut counts = [0usize; 12];
     let mut state = State {
-        records: 0,
-        differing: 0,
-        held: 0,
+        tally: Tally {
+            records: 0,
+            differing: 0,
+        },
         lengths: Lengths {
             table: 65536,
             levels: 128,
             scratch: 65536,
         },
+        held: 0,
     };
     let mut pieces_left = u64::MAX;
     while pieces_left > 0 {
@@ -78,18 +84,16 @@ pub fn compare_all() -> Tally
         state = compare_piece(&piece[..n], state, &mut item, &mut counts);
         pieces_left -= 1;
     }
-    let tally = Tally {
-        records: state.records,
-        differing: state.differing,
-    };
+    let tally = state.tally;
     print_counts(&counts, tally);
     tally
 }
 
 // After a piece of the text more.
-fn compare_piece(piece: &[u8], before: State, item: &mut [u8], counts: &mut [u64]) -> State
-    requires { ⌜ (before .differing ≤ before .records) × (before .held ≤ length (now item)) ⌝ }
-    ensures { λ r. ⌜ (r .differing ≤ r .records) × (r .held ≤ length (now (item .entry))) ⌝ }
+fn compare_piece(piece: &[u8], before: State, item: &mut [u8], counts: &mut [usize]) -> State
+    requires { ⌜ before .held ≤ length (now item) ⌝ }
+    ensures { λ r. ⌜ r .held ≤ length (now (item .entry)) ⌝ }
+    ensures { λ r. ⌜ progressOf r (now (item .exit)) (now (counts .exit)) ≡ afterText (length (now (item .entry))) (progressOf before (now (item .entry)) (now (counts .entry))) (now (piece .entry)) ⌝ }
 {
     let mut state = before;
     let mut i = 0;
@@ -100,39 +104,36 @@ fn compare_piece(piece: &[u8], before: State, item: &mut [u8], counts: &mut [u64
     state
 }
 
-// After one byte more. Of an item that is too long for its room the last bytes are left out, and it then differs.
-fn compare_byte(byte: u8, before: State, item: &mut [u8], counts: &mut [u64]) -> State
-    requires { ⌜ (before .differing ≤ before .records) × (before .held ≤ length (now item)) ⌝ }
-    ensures { λ r. ⌜ (r .differing ≤ r .records) × (r .held ≤ length (now (item .entry))) ⌝ }
+// After one byte more. Of an item that is too long for its room the last bytes are left out; a record then differs.
+fn compare_byte(byte: u8, before: State, item: &mut [u8], counts: &mut [usize]) -> State
+    requires { ⌜ before .held ≤ length (now item) ⌝ }
+    ensures { λ r. ⌜ r .held ≤ length (now (item .entry)) ⌝ }
+    ensures { λ r. ⌜ progressOf r (now (item .exit)) (now (counts .exit)) ≡ afterByte (length (now (item .entry))) (progressOf before (now (item .entry)) (now (counts .entry))) byte ⌝ }
 {
+    let held = before.held;
+    let room = item.len();
+    if ends_item(&item[..held], byte) {
+        return compare_item(&item[..held], room, before, counts);
+    }
+    if held == room {
+        return before;
+    }
+    item[held] = byte;
+    let tally = before.tally;
     let lengths = before.lengths;
-    let mut held = before.held;
-    if ends_item(item, held, byte) {
-        let tally = Tally {
-            records: before.records,
-            differing: before.differing,
-        };
-        return compare_item(&item[..held], tally, lengths, counts);
-    }
-    if held < item.len() {
-        item[held] = byte;
-        held += 1;
-    }
     State {
-        records: before.records,
-        differing: before.differing,
-        held,
+        tally,
         lengths,
+        held: held + 1,
     }
 }
 
-// Whether a byte ends the item of which so many bytes are held: a record ends at ";", any other line at its end.
-fn ends_item(item: &[u8], held: usize, byte: u8) -> bool {
-    if held == 0 {
-        return byte == b'\n';
-    }
+// Whether a byte ends the item with these bytes so far.
+fn ends_item(item: &[u8], byte: u8) -> bool
+    ensures { λ r. ⌜ r ≡ endsItem (now (item .entry)) byte ⌝ }
+{
     if item.len() == 0 {
-        return true;
+        return byte == b'\n';
     }
     let first = item[0];
     if first == b'#' || first == b'@' {
@@ -141,50 +142,51 @@ fn ends_item(item: &[u8], held: usize, byte: u8) -> bool {
     byte == b';'
 }
 
-// What a whole item adds; none is held after it.
-fn compare_item(item: &[u8], before: Tally, lengths: Lengths, counts: &mut [u64]) -> State
-    requires { ⌜ before .differing ≤ before .records ⌝ }
-    ensures { λ r. ⌜ (r .differing ≤ r .records) × (r .held ≡ 0) ⌝ }
+// After an item with these bytes; none is held then.
+fn compare_item(item: &[u8], room: usize, before: State, counts: &mut [usize]) -> State
+    ensures { λ r. ⌜ r .held ≡ 0 ⌝ }
+    ensures { λ r. ⌜ progress (r .tally) (r .lengths) [] (now (counts .exit)) ≡ afterItem room (progress (before .tally) (before .lengths) (now (item .entry)) (now (counts .entry))) ⌝ }
 {
-    let mut tally = before;
-    let mut next = lengths;
+    let mut tally = before.tally;
+    let mut lengths = before.lengths;
     if item.len() > 0 {
         let first = item[0];
         if first == b'@' {
-            next = lengths_of(&item[1..]);
+            lengths = lengths_of(&item[1..]);
         } else if first != b'#' {
-            tally = compare_record(item, before, lengths, counts);
+            tally = compare_record(item, room, tally, lengths, counts);
         }
     }
     State {
-        records: tally.records,
-        differing: tally.differing,
+        tally,
+        lengths,
         held: 0,
-        lengths: next,
     }
 }
 
-// What a record adds.
-fn compare_record(record: &[u8], before: Tally, lengths: Lengths, counts: &mut [u64]) -> Tally
-    requires { ⌜ before .differing ≤ before .records ⌝ }
-    ensures { λ r. ⌜ r .differing ≤ r .records ⌝ }
+// After a record with these bytes. One that fills its room may lack bytes, and counts as differing.
+fn compare_record(
+    bytes: &[u8],
+    room: usize,
+    before: Tally,
+    lengths: Lengths,
+    counts: &mut [usize],
+) -> Tally
+    ensures { λ r. ⌜ progress r lengths [] (now (counts .exit)) ≡ afterRecord room (progress before lengths (now (bytes .entry)) (now (counts .entry))) ⌝ }
 {
-    let found = judge(record, lengths);
+    let found = judge(bytes, lengths);
     count(counts, found.number);
+    let holds = bytes.len() < room && found.same;
     let records = one_more(before.records);
-    let mut differing = before.differing;
-    if !found.same {
-        print_difference(records);
-        if differing < records {
-            differing += 1;
-        }
+    if holds {
+        return Tally {
+            records,
+            differing: before.differing,
+        };
     }
-    Tally { records, differing }
-}
-
-// The next number, if there is one.
-fn one_more(n: usize) -> usize
-    ensures { λ r. ⌜ n ≤ r ⌝ }
-{
-    if n < 18446744073709551615 { n + 1 } else { n }
+    print_difference(records);
+    Tally {
+        records,
+        differing: one_more(before.differing),
+    }
 }

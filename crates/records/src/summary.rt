@@ -1,11 +1,22 @@
 // What is counted and printed of the records.
+ghost use mathlib.Core.Path.{_≡_};
+ghost use Rattle.records.specs.Text.{oneMore, answerCounted};
 use crate::Tally;
 use libc::STDOUT_FILENO;
 
+// The next number; the largest stays.
+pub(crate) fn one_more(n: usize) -> usize
+    ensures { λ r. ⌜ r ≡ oneMore n ⌝ }
+{
+    if n < 18446744073709551615 { n + 1 } else { n }
+}
+
 // Counts an answer by its number, 0 for a filled order.
-pub(crate) fn count(counts: &mut [u64], number: usize) {
+pub(crate) fn count(counts: &mut [usize], number: usize)
+    ensures { λ r. ⌜ now (counts .exit) ≡ answerCounted number (now (counts .entry)) ⌝ }
+{
     if number < counts.len() {
-        counts[number] = std::num::wrapping_add_u64(counts[number], 1);
+        counts[number] = one_more(counts[number]);
     }
 }
 
@@ -16,15 +27,15 @@ pub(crate) fn print_difference(record: usize) {
 }
 
 // How many there are of something, on a line.
-fn print_line(what: &[u8], many: u64) {
+fn print_line(what: &[u8], many: usize) {
     io::write_all(STDOUT_FILENO, what);
     io::write_all(STDOUT_FILENO, b": ");
-    io::print_decimal(STDOUT_FILENO, many);
+    io::print_decimal(STDOUT_FILENO, many as u64);
     io::write_all(STDOUT_FILENO, b"\n");
 }
 
 // How many came to an answer.
-fn print_answers(number: usize, many: u64) {
+fn print_answers(number: usize, many: usize) {
     if number == 0 {
         return print_line(b"filled", many);
     }
@@ -33,12 +44,12 @@ fn print_answers(number: usize, many: u64) {
     print_line(b"", many);
 }
 
-pub(crate) fn print_counts(counts: &[u64], tally: Tally) {
-    print_line(b"records", tally.records as u64);
+pub(crate) fn print_counts(counts: &[usize], tally: Tally) {
+    print_line(b"records", tally.records);
     let mut number = 0;
     while number < counts.len() {
         print_answers(number, counts[number]);
         number += 1;
     }
-    print_line(b"differing", tally.differing as u64);
+    print_line(b"differing", tally.differing);
 }

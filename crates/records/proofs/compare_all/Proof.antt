@@ -3,11 +3,13 @@ use mathlib.Core.Path.{_≡_}
 use Prim.Native.Nat.{_≤_}
 use lib.ListN.{length}
 use borrow.Author.Needs.{needs}
+use Rattle.records.specs.State.{progressOf}
+use Rattle.records.proofs.Texts.{Underway, underway-start, underway-piece, underway-tally, few-differ}
 use Rattle.records.proofs.compare_all.Statement.{statement}
 use Rattle.records.proofs.compare_all.Tie as tie
 
 abbrev Inv-loop : tie.InvT-loop
-Inv-loop piece₀ item₀ counts₀ state₀ pieces-left₀ piece item counts state pieces-left = (length piece ≡ 4096) × (length item ≡ 262144) × (length counts ≡ 12) × (state .differing ≤ state .records) × (state .held ≤ 262144)
+Inv-loop piece₀ item₀ counts₀ state₀ pieces-left₀ piece item counts state pieces-left = (length piece ≡ 4096) × (length item ≡ 262144) × (length counts ≡ 12) × (state .held ≤ 262144) × Underway (progressOf state item counts)
 
 abbrev μ-loop : tie.MeasureT-loop
 μ-loop piece₀ item₀ counts₀ state₀ pieces-left₀ piece item counts state pieces-left = pieces-left
@@ -16,7 +18,7 @@ item-room-requires : tie.Need-item-room-requires Inv-loop μ-loop
 item-room-requires c κs = search needs
 
 loop-holds : tie.Need-loop-holds Inv-loop μ-loop
-loop-holds c = search needs
+loop-holds c = (search needs, search needs, search needs, search needs, underway-start)
 
 slice-aggregate-read : tie.Need-slice-aggregate-read Inv-loop μ-loop
 slice-aggregate-read c = search needs
@@ -52,7 +54,9 @@ loop-less : tie.Need-loop-less Inv-loop μ-loop
 loop-less c = search needs
 
 loop-again : tie.Need-loop-again Inv-loop μ-loop
-loop-again c = search needs
+loop-again c =
+    let turn = c .before .before .before .before .before .before .before .before .before .before .before .before .before in
+    (search needs, search needs, search needs, search needs, underway-piece (turn .loop .inv .4) _ (turn .loop .inv .1) (c .before .before .compare-piece .ensures .1))
 
 slice-aggregate-print-counts : tie.Need-slice-aggregate-print-counts Inv-loop μ-loop
 slice-aggregate-print-counts c = search needs
@@ -61,7 +65,9 @@ print-counts-requires : tie.Need-print-counts-requires Inv-loop μ-loop
 print-counts-requires c κs = search needs
 
 returns : tie.Need-returns Inv-loop μ-loop
-returns c = search needs
+returns c =
+    let whole = underway-tally (c .before .before .before .before .loop .inv .4) in
+    (whole, few-differ whole)
 
 pub compare-all-spec : {M : Type 1} → statement M
 compare-all-spec =

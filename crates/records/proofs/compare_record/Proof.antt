@@ -1,7 +1,22 @@
--- `compare_record` meets its contract: a difference is counted below the number of records.
+-- `compare_record` meets its contract: the record is judged, and counted by what is found.
+use mathlib.Core.Path.{_≡_, sym, _∙_}
+use mathlib.Core.Bool.{_&&_}
+use mathlib.Core.Logic.{⊎-elim}
+use lib.Dec.{ltb}
+use lib.ListN.{length}
+use borrow.Author.Tests.{lt-ltb, le-ltb}
+use Rattle.records.proofs.Texts.{record-counted, tally-holds, tally-differs}
 use borrow.Author.Needs.{needs}
 use Rattle.records.proofs.compare_record.Statement.{statement}
 use Rattle.records.proofs.compare_record.Tie as tie
+
+holds-is : (c : tie.Joined1) →
+    let judged = c .before .before .before .before .before in
+    let args = judged .before .before .before .args in
+    c .if1 .holds ≡ (ltb (length (args .bytes .now)) (args .room) && judged .judge .result .same)
+holds-is c =
+    ⊎-elim (λ w. w .1 ∙ rw (lt-ltb _ _ (w .0 .taken))) (λ w. w .1 ∙ rw (le-ltb _ _ (w .0 .left)))
+    (c .if1 .came)
 
 judge-requires : tie.Need-judge-requires
 judge-requires c κs = search needs
@@ -12,29 +27,29 @@ count-requires c κs = search needs
 one-more-requires : tie.Need-one-more-requires
 one-more-requires c κs = search needs
 
-print-difference-requires : tie.Need-print-difference-requires
-print-difference-requires c κs = search needs
-
-add-differing : tie.Need-add-differing
-add-differing c = search needs
-
 same-length : tie.Need-same-length
 same-length c = search needs
 
 returns : tie.Need-returns
-returns c = search needs
+returns c =
+    let joined = c .before .before in
+    let judged = joined .before .before .before .before .before in
+    record-counted _ _ _ _ _ (judged .judge .ensures) (joined .before .before .before .count .ensures) (sym (c .if2 .taken) ∙ holds-is joined) (tally-holds _ (c .before .one-more .ensures))
+
+print-difference-requires : tie.Need-print-difference-requires
+print-difference-requires c κs = search needs
+
+one-more-requires-2 : tie.Need-one-more-requires-2
+one-more-requires-2 c κs = search needs
 
 same-length-2 : tie.Need-same-length-2
 same-length-2 c = search needs
 
 returns-2 : tie.Need-returns-2
-returns-2 c = search needs
-
-same-length-3 : tie.Need-same-length-3
-same-length-3 c = search needs
-
-returns-3 : tie.Need-returns-3
-returns-3 c = search needs
+returns-2 c =
+    let joined = c .before .before .before .before in
+    let judged = joined .before .before .before .before .before in
+    record-counted _ _ _ _ _ (judged .judge .ensures) (joined .before .before .before .count .ensures) (sym (c .before .before .if2 .left) ∙ holds-is joined) (tally-differs _ (c .before .before .before .one-more .ensures) (c .one-more2 .ensures))
 
 pub compare-record-spec : {M : Type 1} → statement M
 compare-record-spec =
@@ -43,11 +58,9 @@ compare-record-spec =
     judge-requires
     count-requires
     one-more-requires
-    print-difference-requires
-    add-differing
     same-length
     returns
+    print-difference-requires
+    one-more-requires-2
     same-length-2
-    returns-2
-    same-length-3
-    returns-3)
+    returns-2)

@@ -1,24 +1,29 @@
--- `zero_from` is safe and ends.
-use Prim.Native.Nat.{_-_, _≤_}
-use lib.ListN.{length}
+-- `zero_from` meets its contract. The invariant: all are zero if the rest is.
+use mathlib.Core.Path.{_≡_, refl, sym, _∙_}
+use Prim.Native.Nat.{_-_}
+use lib.ListN.{length, drop}
 use borrow.Author.Needs.{needs}
+use Rattle.records.specs.Bytes.{allZero}
+use Rattle.records.proofs.Comparing.{zero-later, no-zero-here, zero-end}
 use Rattle.records.proofs.bytes.zero_from.Statement.{statement}
 use Rattle.records.proofs.bytes.zero_from.Tie as tie
 
 abbrev Inv-loop : tie.InvT-loop
-Inv-loop bytes start at₀ at = start ≤ at
+Inv-loop bytes start at₀ at = allZero (drop start bytes) ≡ allZero (drop at bytes)
 
 abbrev μ-loop : tie.MeasureT-loop
 μ-loop bytes start at₀ at = length bytes - at
 
 loop-holds : tie.Need-loop-holds Inv-loop μ-loop
-loop-holds c = search needs
+loop-holds c = refl
 
 shared-slice-read-if1 : tie.Need-shared-slice-read-if1 Inv-loop μ-loop
 shared-slice-read-if1 c = search needs
 
 returns : tie.Need-returns Inv-loop μ-loop
-returns c = search needs
+returns c =
+    let turn = c .before .before in
+    sym (turn .before .loop .inv ∙ no-zero-here _ _ (turn .loop-test .taken) (c .if1 .taken))
 
 add-at : tie.Need-add-at Inv-loop μ-loop
 add-at c = search needs
@@ -27,10 +32,12 @@ loop-less : tie.Need-loop-less Inv-loop μ-loop
 loop-less c = search needs
 
 loop-again : tie.Need-loop-again Inv-loop μ-loop
-loop-again c = search needs
+loop-again c =
+    let turn = c .before .before in
+    turn .before .loop .inv ∙ zero-later _ _ (turn .loop-test .taken) (c .if1 .left)
 
 returns-2 : tie.Need-returns-2 Inv-loop μ-loop
-returns-2 c = search needs
+returns-2 c = sym (c .before .loop .inv ∙ zero-end _ _ (c .loop-test .left))
 
 pub zero-from-spec : {M : Type 1} → statement M
 zero-from-spec =

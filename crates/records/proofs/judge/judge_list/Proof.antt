@@ -1,7 +1,9 @@
--- `judge_list` is safe: the lengths are within the buffers.
-use mathlib.Core.Path.{sym}
+-- `judge_list` meets its contract: the buffers have the lengths that are asked for, as far as there is room.
+use mathlib.Core.Path.{sym, _∙_}
+use native.Mathlib.Omega.{arith}
 use lib.ListN.{length-replicate}
 use lib.Seq.{length-take-le}
+use Rattle.records.proofs.Judging.{judged-alike}
 use borrow.Author.Needs.{needs}
 use Rattle.records.proofs.judge.judge_list.Statement.{statement}
 use Rattle.records.proofs.judge.judge_list.Tie as tie
@@ -19,25 +21,32 @@ array-borrow-prefix-table : tie.Need-array-borrow-prefix-table
 array-borrow-prefix-table c = search needs
 
 slice-aggregate-judge-in : tie.Need-slice-aggregate-judge-in
-slice-aggregate-judge-in c = sym (length-take-le _ _ (rw (length-replicate) (c .before .before .before .within .ensures)))
+slice-aggregate-judge-in c = sym (length-take-le _ _ (rw length-replicate (omega (arith, c .before .before .before .within .ensures))))
 
 array-borrow-prefix-levels : tie.Need-array-borrow-prefix-levels
 array-borrow-prefix-levels c = search needs
 
 slice-aggregate-judge-in-2 : tie.Need-slice-aggregate-judge-in-2
-slice-aggregate-judge-in-2 c = sym (length-take-le _ _ (rw (length-replicate) (c .before .before .before .within2 .ensures)))
+slice-aggregate-judge-in-2 c = sym (length-take-le _ _ (rw length-replicate (omega (arith, c .before .before .before .within2 .ensures))))
 
 array-borrow-prefix-scratch : tie.Need-array-borrow-prefix-scratch
 array-borrow-prefix-scratch c = search needs
 
 slice-aggregate-judge-in-3 : tie.Need-slice-aggregate-judge-in-3
-slice-aggregate-judge-in-3 c = sym (length-take-le _ _ (rw (length-replicate) (c .before .before .before .within3 .ensures)))
+slice-aggregate-judge-in-3 c = sym (length-take-le _ _ (rw length-replicate (omega (arith, c .before .before .before .within3 .ensures))))
 
 judge-in-requires : tie.Need-judge-in-requires
 judge-in-requires c κs = search needs
 
 returns : tie.Need-returns
-returns c = search needs
+returns c =
+    let asked = c .before .before .before .before .before .before .before in
+    let first = asked .before .before .within .ensures in
+    let second = asked .before .within2 .ensures in
+    let third = asked .within3 .ensures in
+    judged-alike _ _ (length-take-le _ _ (rw length-replicate (omega (arith, first))) ∙ first) (length-take-le _ _ (rw length-replicate (omega (arith, second))) ∙ second)
+    (length-take-le _ _ (rw length-replicate (omega (arith, third))) ∙ third)
+    (c .before .before .before .judge-in .ensures)
 
 pub judge-list-spec : {M : Type 1} → statement M
 judge-list-spec =

@@ -1,5 +1,6 @@
--- `scan` meets its contract: no more numbers are read than the list has places.
+-- `scan` meets its contract: the text is one piece.
 use Rattle.words.proofs.Bounds.{sound-start, sound-piece, sound-finish}
+use Rattle.records.proofs.Judging.{scanned-text}
 use borrow.Author.Needs.{needs}
 use Rattle.records.proofs.judge.scan.Statement.{statement}
 use Rattle.records.proofs.judge.scan.Tie as tie
@@ -15,7 +16,12 @@ finish-requires c κs = search needs
 
 returns : tie.Need-returns
 returns c =
-    sound-finish (sound-piece (sound-start _ (c .before .before .before .before .start .ensures)) _ (c .before .before .piece .ensures)) (c .finish .ensures)
+    let started = c .before .before .before .before .start .ensures in
+    let scanned = c .before .before .piece .ensures in
+    let start = c .before .before .before .before .before .before in (
+      sound-finish (sound-piece (sound-start _ started) _ scanned) (c .finish .ensures),
+      scanned-text _ (start .args .list .now) (start .pre) started scanned (c .finish .ensures),
+    )
 
 pub scan-spec : {M : Type 1} → statement M
 scan-spec = tie.close (tie.spec start-requires piece-requires finish-requires returns)

@@ -1,0 +1,15 @@
+-- The code's state as the definitions have it.
+use mathlib.Core.List.{List}
+use Prim.Native.Nat.{ℕ}
+use lib.ListN.{take}
+use Rattle.records.specs.Text.{Progress}
+use Rattle.records.specs.declared.Tally.{Tally}
+use Rattle.records.specs.declared.State.{State}
+use Rattle.records.specs.declared.judge.Lengths.{Lengths}
+
+abbrev pub progress : Tally → Lengths → List ℕ → List ℕ → Progress
+progress tally lengths item answers = record { tally = tally; answers = answers; lengths = lengths; item = item }
+
+-- The state, the buffer at whose front the bytes of the item stand, and the counts by answer.
+abbrev pub progressOf : State → List ℕ → List ℕ → Progress
+progressOf s item answers = progress (s .tally) (s .lengths) (take (s .held) item) answers

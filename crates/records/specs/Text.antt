@@ -1,0 +1,102 @@
+-- A text of records, byte by byte: the head of src/lib.rt shows its lines.
+use mathlib.Core.Path.{_≡_}
+use mathlib.Core.Bool.{Bool, cond, _&&_, _||_}
+use mathlib.Core.List.{List, [], _∷_, _++_, foldl, flatten}
+use Prim.Native.Nat.{ℕ, _+_}
+use lib.Dec.{eqb, ltb}
+use lib.ListN.{length, getD, set, take, replicate}
+use Rattle.records.specs.Record.{lengthsGiven, judged}
+use Rattle.records.specs.declared.Tally.{Tally}
+use Rattle.records.specs.declared.judge.Lengths.{Lengths}
+
+-- One more; a count stays at the largest number that it can hold, which no text reaches.
+unfoldable pub oneMore : ℕ → ℕ
+oneMore n = cond (ltb n 18446744073709551615) (n + 1) n
+
+-- How far a text has been compared.
+pub record Progress : Type 0 where
+  -- how many records there were, and how many of them differ
+  pub tally : Tally
+  -- how many came to each answer, by its number
+  pub answers : List ℕ
+  -- the lengths of the buffers for the next record
+  pub lengths : Lengths
+  -- the bytes of the item that is not ended yet
+  pub item : List ℕ
+
+-- "#" begins a remark and "@" a line of lengths.
+abbrev pub isLine : ℕ → Bool
+isLine first = eqb first 35 || eqb first 64
+
+-- Whether a byte ends the item with these bytes so far: those two and an empty line end with their line, and any other item, a record, at ";".
+unfoldable pub endsItem : List ℕ → ℕ → Bool
+endsItem [] byte = eqb byte 10
+endsItem (first ∷ rest) byte = cond (isLine first) (eqb byte 10) (eqb byte 59)
+
+-- A record is counted, and counted as differing where it does not hold, and only there.
+unfoldable pub recordCounted : Bool → Tally → Tally
+recordCounted holds tally =
+    record { records = oneMore (tally .records); differing = cond holds (tally .differing) (oneMore (tally .differing)) }
+
+-- It is counted by its answer too.
+unfoldable pub answerCounted : ℕ → List ℕ → List ℕ
+answerCounted number answers = set answers number (oneMore (getD answers number 0))
+
+-- After a record, which there is room for if it is shorter than the room. One that is not may lack bytes, and differs.
+unfoldable pub afterRecord : ℕ → Progress → Progress
+afterRecord room p =
+    let found = judged (p .item) (p .lengths) in
+    record {
+      tally = recordCounted (ltb (length (p .item)) room && found .same) (p .tally);
+      answers = answerCounted (found .number) (p .answers);
+      lengths = p .lengths;
+      item = [];
+    }
+
+-- After a line of lengths, and after a line that says nothing.
+abbrev pub afterLengths : List ℕ → Progress → Progress
+afterLengths line p = record { tally = p .tally; answers = p .answers; lengths = lengthsGiven line; item = [] }
+
+abbrev pub afterNothing : Progress → Progress
+afterNothing p = record { tally = p .tally; answers = p .answers; lengths = p .lengths; item = [] }
+
+-- After an item that has these bytes.
+abbrev pub afterItemOf : ℕ → List ℕ → Progress → Progress
+afterItemOf room [] p = afterNothing p
+afterItemOf room (first ∷ rest) p =
+    cond (eqb first 64) (afterLengths rest p) (cond (eqb first 35) (afterNothing p) (afterRecord room p))
+
+unfoldable pub afterItem : ℕ → Progress → Progress
+afterItem room p = afterItemOf room (p .item) p
+
+-- A byte of an item more, as far as there is room.
+abbrev pub byteHeld : ℕ → ℕ → Progress → Progress
+byteHeld room byte p =
+    record { tally = p .tally; answers = p .answers; lengths = p .lengths; item = take room (p .item ++ (byte ∷ [])) }
+
+-- After a byte more, where there is room for so many bytes of an item.
+unfoldable pub afterByte : ℕ → Progress → ℕ → Progress
+afterByte room p byte = cond (endsItem (p .item) byte) (afterItem room p) (byteHeld room byte p)
+
+-- After some bytes.
+unfoldable pub afterText : ℕ → Progress → List ℕ → Progress
+afterText room p bytes = foldl (afterByte room) p bytes
+
+-- Before the first byte: nothing is counted, and the buffers are as long as document 01 asks.
+abbrev pub start : Progress
+start =
+    record {
+      tally = record { records = 0; differing = 0 };
+      answers = replicate 12 0;
+      lengths = record { table = 65536; levels = 128; scratch = 65536 };
+      item = [];
+    }
+
+-- What a text comes to, where there is room for 262,144 bytes of an item. A record that is not ended is not counted.
+unfoldable pub compared : List ℕ → Progress
+compared text = afterText 262144 start text
+
+-- The tally of a text that was read in pieces. Nothing can say which bytes are read from standard input, so this says that there are such.
+pub record Compared (tally : Tally) : Type 0 where
+  pub pieces : List (List ℕ)
+  pub tally-is : tally ≡ compared (flatten pieces) .tally
