@@ -5,7 +5,7 @@ use mathlib.Core.List.{List}
 use Prim.Native.Nat.{ℕ}
 use Rattle.buffers.specs.Put.{Put}
 use Rattle.sheets.specs.Outcome.{outcome}
-use Rattle.construction.specs.Promise.{planned}
+use Rattle.promise.specs.Promise.{planned}
 use Rattle.report.specs.Report.{outcomePrinted}
 
 pub outcome-put : (list : List ℕ) {n m k : ℕ} {before after : List ℕ} {at end : ℕ} → 65536 ≡ n → 128 ≡ m → 65536 ≡ k

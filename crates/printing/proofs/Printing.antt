@@ -16,16 +16,16 @@ use Rattle.sheets.specs.declared.answer.Answer.{Answer}
 use Rattle.sheets.proofs.Carried.{refused-not-filled}
 use Rattle.sheets.proofs.Filled.{filled-sound}
 use Rattle.layout.specs.Bytes.{runOf, runsOf, zeros, padded}
-use Rattle.construction.specs.Promise.{suffice, planned, answerTo, tableBytes, levelBytes, Promise}
+use Rattle.promise.specs.Promise.{suffice, planned, answerTo, tableBytes, levelBytes, Promise}
 use Rattle.layout.proofs.Bytes.{runs-length}
 use Rattle.layout.proofs.Sheets.{padded-length, cells-few}
 use Rattle.buffers.specs.Put.{Put}
-use Rattle.report.specs.Report.{answerPrinted, Fitting, Printable, outcomePrinted}
+use Rattle.report.specs.Report.{answerPrinted, TableInBuffers, Printable, outcomePrinted}
 use Rattle.report.proofs.Padded.{filled-printed}
 
 -- a table in buffers of n and m bytes
 module _ (S : Table) (n m : ℕ) (small : SmallEnough S) (table-long : 65536 ≤ n) (levels-long : 128 ≤ m) where
-  fits-padded : Fitting (S .runs) (columns S) (padded m (S .levels)) (padded n (runsOf S))
+  fits-padded : TableInBuffers (S .runs) (columns S) (padded m (S .levels)) (padded n (runsOf S))
   fits-padded =
       let few : S .runs * columns S ≤ n = le-trans (cells-few (small .runs-most) (small .columns-most)) table-long in
       let narrow : columns S ≤ m = le-trans (small .columns-most) levels-long in

@@ -2,7 +2,7 @@
 ghost use Prim.Native.Nat.{_≤_};
 ghost use lib.ListN.{length};
 ghost use Rattle.buffers.specs.Put.{Put};
-ghost use Rattle.construction.specs.Promise.{planned, Promise};
+ghost use Rattle.promise.specs.Promise.{planned, Promise};
 ghost use Rattle.report.specs.Report.{answerRoom, outcomePrinted};
 use construction::plan;
 use report::put_answer;

@@ -12,7 +12,7 @@ use lib.ListN.{length, getD, take, drop, take-append-drop}
 use lib.Seq.{drop-at, length-take-le}
 use Rattle.counting.specs.Table.{columns}
 use Rattle.words.specs.Words.{Reading, numbers, refused as unread, reading}
-use Rattle.words.specs.Scanner.{advanced, finished, readingOf}
+use Rattle.words.specs.Scanner.{advanced, finished, scannedReading}
 use Rattle.words.specs.declared.Scan.{Scan}
 use Rattle.words.specs.declared.Scan.the-variants.{Between}
 use Rattle.words.specs.declared.Scanned.{Scanned}
@@ -26,7 +26,7 @@ use Rattle.sheets.specs.declared.answer.Answer.{Answer}
 use Rattle.sheets.specs.declared.answer.Answer.the-variants.{Filled, Refused}
 use Rattle.layout.specs.Bytes.{runsOf, zeros, padded}
 use Rattle.layout.proofs.Bytes.{runs-length}
-use Rattle.construction.specs.Promise.{planned, answerTo, tableBytes, levelBytes, Promise}
+use Rattle.promise.specs.Promise.{planned, answerTo, tableBytes, levelBytes, Promise}
 use Rattle.report.specs.Report.{refusalLine, Printable, outcomePrinted}
 use Rattle.records.specs.Bytes.{firstPlace, sameBytes, allZero}
 use Rattle.records.specs.Record.{lengthsIn, lengthsGiven, lengthsRead, cameTo, answerNumber, judgedAs, judged, restZero}
@@ -39,19 +39,19 @@ judgedBy number same = record { number = number; same = same }
 
 -- A text that is scanned whole comes to its reading.
 pub scanned-text : (text before : List ℕ) → length before ≡ 32768 → {s s′ : Scan} {list list′ : List ℕ} {r : Scanned}
-    → s ≡ Between 0 → (s′, list) ≡ advanced (s, before) text → (r, list′) ≡ finished (s′, list) → readingOf (r, list′) ≡ reading text
+    → s ≡ Between 0 → (s′, list) ≡ advanced (s, before) text → (r, list′) ≡ finished (s′, list) → scannedReading (r, list′) ≡ reading text
 unfolding flatten
 scanned-text text before places begun scanned ended =
-    ap readingOf (ended ∙ ap finished (scanned ∙ ap (λ (s : Scan). advanced (s, before) text) begun))
+    ap scannedReading (ended ∙ ap finished (scanned ∙ ap (λ (s : Scan). advanced (s, before) text) begun))
     ∙ any-cut before places (text ∷ [])
     ∙ ap reading (append-nil text)
 
-module _ {r : Scanned} (list text : List ℕ) (reads : readingOf (r, list) ≡ reading text) where
+module _ {r : Scanned} (list text : List ℕ) (reads : scannedReading (r, list) ≡ reading text) where
   pub reads-numbers : {count : ℕ} → r ≡ Scanned.Numbers count → reading text ≡ numbers (take count list)
-  reads-numbers e = sym reads ∙ ap (λ (s : Scanned). readingOf (s, list)) e
+  reads-numbers e = sym reads ∙ ap (λ (s : Scanned). scannedReading (s, list)) e
 
   pub reads-refused : {place : ℕ} → r ≡ Scanned.Refused place → reading text ≡ unread place
-  reads-refused e = sym reads ∙ ap (λ (s : Scanned). readingOf (s, list)) e
+  reads-refused e = sym reads ∙ ap (λ (s : Scanned). scannedReading (s, list)) e
 
 -- Lengths, three at a time.
 pub lengths-three : (list : List ℕ) {a b c : ℕ} → a ≡ getD list 0 0 * 65536 + getD list 1 0 → b ≡ getD list 2 0 * 65536 + getD list 3 0

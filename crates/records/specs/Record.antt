@@ -9,7 +9,7 @@ use Rattle.sheets.specs.Steps.{Outcome, refused}
 use Rattle.sheets.specs.declared.answer.Refusal.the-variants.{Unreadable}
 use Rattle.sheets.specs.declared.answer.Answer.{Answer}
 use Rattle.sheets.specs.declared.answer.Answer.the-variants.{Filled, Refused}
-use Rattle.construction.specs.Promise.{planned, answerTo}
+use Rattle.promise.specs.Promise.{planned, answerTo}
 use Rattle.report.specs.Report.{outcomePrinted}
 use Rattle.records.specs.Bytes.{firstPlace, sameBytes, allZero}
 use Rattle.records.specs.declared.judge.Judged.{Judged}

@@ -4,9 +4,9 @@ ghost use mathlib.Core.List.{_∷_};
 ghost use Prim.Native.Nat.{_+_, _*_, _≤_, min};
 ghost use lib.ListN.{length, getD};
 ghost use Rattle.words.specs.Words.{reading, Reading};
-ghost use Rattle.words.specs.Scanner.{Ended, readingOf};
+ghost use Rattle.words.specs.Scanner.{Ended, scannedReading};
 ghost use Rattle.sheets.specs.Steps.{Outcome};
-ghost use Rattle.construction.specs.Promise.{planned};
+ghost use Rattle.promise.specs.Promise.{planned};
 ghost use Rattle.report.specs.Report.{answerRoom, Printable};
 ghost use Rattle.records.specs.Bytes.{sameBytes};
 ghost use Rattle.records.specs.Record.{lengthsIn, lengthsGiven, cameTo, answerNumber, judgedAs, judged, restZero};
@@ -38,7 +38,7 @@ pub(crate) struct Judged {
 fn scan(text: &[u8], list: &mut [u16; 32768]) -> Scanned
     requires { ⌜ length (now list) ≡ 32768 ⌝ }
     ensures { λ r. ⌜ Ended (length (now (list .entry))) r (now (list .exit)) ⌝ }
-    ensures { λ r. ⌜ readingOf (r, now (list .exit)) ≡ reading (now (text .entry)) ⌝ }
+    ensures { λ r. ⌜ scannedReading (r, now (list .exit)) ≡ reading (now (text .entry)) ⌝ }
 {
     Scan::start().piece(text, list).finish(list)
 }
