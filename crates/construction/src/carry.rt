@@ -26,7 +26,8 @@ fn allowed(number: usize, kind: usize) -> bool
     if number == 1 { kind <= 2 } else { kind >= 3 }
 }
 
-// Step number n, of this kind, with its operands at place `at`. Only a later step looks at the size of the sheet in hand: before the first there is none.
+// Step number n, of this kind, with its operands at place `at`. Only a later step looks at the size of the sheet in hand: before the first there
+// is none.
 fn step(
     list: &[u16],
     kind: usize,
@@ -52,6 +53,7 @@ fn step(
         3 => sum(list, at, number, size, table, levels, scratch),
         4 => merge(list, at, number, size, table, levels, scratch),
         5 => split(list, at, number, size, table, levels, scratch),
+        // There is no other kind (question 2).
         _ => not_allowed,
     }
 }
