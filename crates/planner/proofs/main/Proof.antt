@@ -18,7 +18,7 @@ array-share-prefix-out : tie.Need-array-share-prefix-out
 array-share-prefix-out c = search needs
 
 slice-aggregate-write-answer : tie.Need-slice-aggregate-write-answer
-slice-aggregate-write-answer c = sym (length-take-le _ _ (c .before .before .answer-input .ensures .0))
+slice-aggregate-write-answer c = sym (length-take-le _ _ (search needs))
 
 write-answer-requires : tie.Need-write-answer-requires
 write-answer-requires c κs = c .before .before .answer-input .ensures .1
