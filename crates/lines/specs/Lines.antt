@@ -1,7 +1,7 @@
 -- What is printed: document 01, "Printed runs". Text is the list of its bytes.
 use mathlib.Core.Bool.{cond}
 use mathlib.Core.List.{List, [], _∷_, _++_}
-use Prim.Native.Nat.{ℕ, zero, suc, _+_, _*_, _/_, _%_}
+use Prim.Native.Nat.{ℕ, zero, suc, _+_, _/_, _%_}
 use lib.Dec.{ltb}
 use lib.ListN.{length, take, drop}
 
@@ -46,13 +46,3 @@ runLines (suc runs) m cells = line (take m cells) ++ runLines runs m (drop m cel
 -- A filled order "prints "N m", the level counts, then the runs". There are as many level counts as columns.
 unfoldable pub printed : ℕ → List ℕ → List ℕ → List ℕ
 printed runs levels cells = line (runs ∷ length levels ∷ []) ++ line levels ++ runLines runs (length levels) cells
-
--- f of 0, 1, .., n − 1.
-abbrev pub upTo : ℕ → (ℕ → List ℕ) → List (List ℕ)
-upTo zero f = []
-upTo (suc n) f = f 0 ∷ upTo n (λ i. f (i + 1))
-
--- The same lines, one at a time, as a program puts them: run number i has the cells from i × m on.
-unfoldable pub printedLines : ℕ → List ℕ → List ℕ → List (List ℕ)
-printedLines runs levels cells =
-    line (runs ∷ length levels ∷ []) ∷ line levels ∷ upTo runs (λ i. line (take (length levels) (drop (i * length levels) cells)))

@@ -10,11 +10,13 @@ use lib.ListN.{length, take, drop, length-append, length-take}
 use lib.Seq.{length-take-le}
 use Rattle.buffers.specs.Put.{Put, Bytes}
 use Rattle.buffers.proofs.Puts.{put-none, put-join, put-length}
-use Rattle.lines.specs.Lines.{decimalDigits, line, runLines, printed}
+use Rattle.lines.specs.Lines.{decimalDigits, line, refusedLine, runLines, printed}
 use Rattle.lines.proofs.Decimals.{decimal-length}
 use Rattle.lines.proofs.Rows.{line-pair}
 use Rattle.lines.proofs.Runs.{runs-snoc, take-small, line-length, runs-length}
-use Rattle.report.specs.Report.{answerRoom, TableInBuffers}
+use Rattle.sheets.specs.Refusals.{numbered}
+use Rattle.sheets.specs.declared.answer.Refusal.{Refusal}
+use Rattle.report.specs.Report.{refusalLine, answerRoom, TableInBuffers}
 
 -- The first n of some runs are put; the next starts at the place `start` among the cells.
 pub record RunsPut (columns : ℕ) (cells a : List ℕ) (at n : ℕ) (b : List ℕ) (end start : ℕ) : Type 0 where
@@ -56,35 +58,41 @@ module _ {columns : ℕ} {cells a : List ℕ} {at n : ℕ} {b : List ℕ} {end s
         starts = rw add-one (omega (arith, so-far .starts, suc-mul n columns));
       }
 
+size-length : (m n : ℕ) → m < 1000 → n < 1000 → length (line (m ∷ n ∷ [])) ≤ 8
+size-length m n first second =
+    let numbers = length-append (decimalDigits m) (32 ∷ decimalDigits n) in
+    let whole = length-append (decimalDigits m ++ (32 ∷ decimalDigits n)) (10 ∷ []) in
+    let left = decimal-length 2 m first in
+    let right = decimal-length 2 n second in
+    rw line-pair (omega arith)
+
 -- A table within the limits: the size and the level counts are put, then the runs.
 module _ {runs columns : ℕ} {levels cells : List ℕ} (fits : TableInBuffers runs columns levels cells) where
   pub many : length (take columns levels) ≡ columns
   many = length-take-le columns levels (fits .levels-there)
-
-  size-length : length (line (runs ∷ columns ∷ [])) ≤ 8
-  size-length =
-      let numbers = length-append (decimalDigits runs) (32 ∷ decimalDigits columns) in
-      let whole = length-append (decimalDigits runs ++ (32 ∷ decimalDigits columns)) (10 ∷ []) in
-      let first = decimal-length 2 runs (omega (arith, fits .few)) in
-      let second = decimal-length 2 columns (omega (arith, fits .narrow)) in
-      rw line-pair (omega arith)
 
   runs-wide : runs * (4 * columns + 1) ≤ 262656
   runs-wide =
       let wide : 4 * columns + 1 ≤ 513 = omega (arith, fits .narrow) in
       mul-le-mul (fits .few) wide
 
-  module _ {a b : List ℕ} {j : ℕ} (size : Put a 0 (line (runs ∷ columns ∷ [])) b j) where
+  module _ {m n : ℕ} {a b : List ℕ} {j : ℕ} (size : Put a 0 (line (m ∷ n ∷ [])) b j) (first : m < 1000) (second : n < 1000) where
     pub levels-room : answerRoom ≤ length a → j + 4 * length (take columns levels) < length b
-    levels-room room = omega (arith, many, fits .narrow, size .ends, size-length, put-length size)
+    levels-room room = omega (arith, many, fits .narrow, size .ends, size-length m n first second, put-length size)
 
-    module _ {c : List ℕ} {k : ℕ} (counts : Put b j (line (take columns levels)) c k) where
-      pub runs-room : Bytes levels → answerRoom ≤ length a → k + runs * (4 * columns + 1) ≤ length c
-      runs-room small room =
-          let long = line-length (take columns levels) (take-small columns levels small) in
-          let kept = put-length counts ∙ put-length size in
-          omega (arith, many, fits .narrow, size .ends, size-length, counts .ends, long, kept, runs-wide)
+    pub runs-room : {c : List ℕ} {k : ℕ} → Put b j (line (take columns levels)) c k → Bytes levels → answerRoom ≤ length a
+        → k + runs * (4 * columns + 1) ≤ length c
+    runs-room counts small room =
+        let long = line-length (take columns levels) (take-small columns levels small) in
+        let kept = put-length counts ∙ put-length size in
+        omega (arith, many, fits .narrow, size .ends, size-length m n first second, counts .ends, long, kept, runs-wide)
 
-      pub put-printed : {d : List ℕ} {l : ℕ} → Put c k (runLines runs columns cells) d l → Put a 0 (printed runs (take columns levels) cells) d l
-      unfolding printed
-      put-printed q = rw many (put-join (put-join size counts) q)
+  pub put-printed : {a b c d : List ℕ} {j k l : ℕ} → Put a 0 (line (runs ∷ columns ∷ [])) b j → Put b j (line (take columns levels)) c k
+      → Put c k (runLines runs columns cells) d l → Put a 0 (printed runs (take columns levels) cells) d l
+  unfolding printed
+  put-printed size counts q = rw many (put-join (put-join size counts) q)
+
+-- A refusal's line, from its numbers.
+pub put-refusal-line : (why : Refusal) {numbers a b : List ℕ} {j : ℕ} → numbers ≡ numbered why → Put a 0 (refusedLine numbers) b j → Put a 0 (refusalLine why) b j
+unfolding refusalLine
+put-refusal-line why e p = rw e at p

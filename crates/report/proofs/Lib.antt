@@ -1,4 +1,3 @@
-pub mod AnswerLines
 pub mod Answers
 pub mod Padded
 pub mod Printed

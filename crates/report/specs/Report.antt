@@ -1,10 +1,10 @@
 -- What is printed of an answer: document 01, "Printed runs".
-use mathlib.Core.List.{List, [], _∷_, map, flatMap}
-use Prim.Native.Nat.{ℕ, _+_, _*_, _≤_}
+use mathlib.Core.List.{List, map, flatMap}
+use Prim.Native.Nat.{ℕ, _*_, _≤_}
 use lib.ListN.{length, take}
 use Rattle.finite.specs.Lists.{from}
 use Rattle.counting.specs.Table.{columns}
-use Rattle.lines.specs.Lines.{refusedLine, printed, printedLines}
+use Rattle.lines.specs.Lines.{refusedLine, printed}
 use Rattle.words.specs.Words.{Reading, numbers, refused, reading}
 use Rattle.sheets.specs.Refusals.{numbered}
 use Rattle.sheets.specs.Steps as steps
@@ -26,16 +26,6 @@ answerPrinted (Refused why) levels cells = refusalLine why
 -- Room for any answer: 514 lines (the size, the level counts and 512 runs) of at most 513 bytes.
 abbrev pub answerRoom : ℕ
 answerRoom = 263682
-
--- The lines of an answer, with the level list and the run table that came with it: of a filled order "N m", the level counts and the runs.
-unfoldable pub answerLines : Answer → List ℕ → List ℕ → List (List ℕ)
-answerLines (Filled runs columns) levels cells = printedLines runs (take columns levels) cells
-answerLines (Refused why) levels cells = refusalLine why ∷ []
-
--- How many they are.
-unfoldable pub lineCount : Answer → ℕ
-lineCount (Filled runs columns) = runs + 2
-lineCount (Refused why) = 1
 
 -- A table within the limits that lies in its buffers.
 pub record TableInBuffers (runs columns : ℕ) (levels cells : List ℕ) : Type 0 where

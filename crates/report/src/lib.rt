@@ -1,12 +1,10 @@
-// What a program prints of an answer: document 01, "Printed runs". The lines are numbered from 0, and each is put into a buffer by itself, so that
-// a program only has to read, to plan and to write.
-ghost use mathlib.Core.Path.{_≡_};
-ghost use mathlib.Core.List.{[]};
-ghost use Prim.Native.Nat.{_+_, _*_, _≤_, _<_};
-ghost use lib.ListN.{length, getD, take};
+// What a program prints of an answer: document 01, "Printed runs". It is put whole into a buffer, so that a program only has to read, to plan and to
+// write.
+ghost use Prim.Native.Nat.{_+_, _*_, _≤_};
+ghost use lib.ListN.{length, take};
 ghost use Rattle.buffers.specs.Put.{Put};
-ghost use Rattle.lines.specs.Lines.{runLines, printed, printedLines};
-ghost use Rattle.report.specs.Report.{refusalLine, answerPrinted, answerRoom, answerLines, lineCount, Printable, TableInBuffers};
+ghost use Rattle.lines.specs.Lines.{runLines, printed};
+ghost use Rattle.report.specs.Report.{refusalLine, answerPrinted, answerRoom, Printable, TableInBuffers};
 use lines::put_pair;
 use lines::put_refusal;
 use lines::put_row;
@@ -20,31 +18,6 @@ pub fn put_refused(buf: &mut [u8], why: Refusal) -> usize
     ensures { λ r. ⌜ Put (now (buf .entry)) 0 (refusalLine why) (now (buf .exit)) r ⌝ }
 {
     put_refusal(buf, 0, numbers_of(why))
-}
-
-// Line i of a table of so many runs and columns: the size, the level counts, or a run.
-fn put_filled(
-    buf: &mut [u8],
-    i: usize,
-    runs: usize,
-    columns: usize,
-    levels: &[u8],
-    cells: &[u8],
-) -> usize
-    requires { ⌜ 1024 ≤ length (now buf) ⌝ }
-    requires { ⌜ TableInBuffers runs columns (now levels) (now cells) ⌝ }
-    requires { ⌜ i < runs + 2 ⌝ }
-    ensures { λ r. ⌜ Put (now (buf .entry)) 0 (getD (printedLines runs (take columns (now (levels .entry))) (now (cells .entry))) i []) (now (buf .exit)) r ⌝ }
-{
-    if i == 0 {
-        return put_pair(buf, 0, runs, columns);
-    }
-    if i == 1 {
-        return put_row(buf, 0, &levels[..columns]);
-    }
-    let start = (i - 2) * columns;
-    let end = start + columns;
-    put_row(buf, 0, &cells[start..end])
 }
 
 // So many runs, one to a line, from a place of the buffer on.
@@ -84,30 +57,6 @@ pub fn put_answer(buf: &mut [u8], answer: Answer, levels: &[u8], cells: &[u8]) -
 {
     match answer {
         Answer::Filled { runs, columns } => put_table(buf, runs, columns, levels, cells),
-        Answer::Refused(why) => put_refused(buf, why),
-    }
-}
-
-// How many lines an answer has.
-pub fn line_count(answer: Answer) -> usize
-    requires { ⌜ lineCount answer ≤ 65536 ⌝ }
-    ensures { λ r. ⌜ r ≡ lineCount answer ⌝ }
-{
-    match answer {
-        Answer::Filled { runs, columns: _ } => runs + 2,
-        Answer::Refused(_) => 1,
-    }
-}
-
-// Line i of an answer, at the front of a buffer. The level counts and the cells are those that came with the answer.
-pub fn put_line(buf: &mut [u8], i: usize, answer: Answer, levels: &[u8], cells: &[u8]) -> usize
-    requires { ⌜ 1024 ≤ length (now buf) ⌝ }
-    requires { ⌜ Printable answer (now levels) (now cells) ⌝ }
-    requires { ⌜ i < lineCount answer ⌝ }
-    ensures { λ r. ⌜ Put (now (buf .entry)) 0 (getD (answerLines answer (now (levels .entry)) (now (cells .entry))) i []) (now (buf .exit)) r ⌝ }
-{
-    match answer {
-        Answer::Filled { runs, columns } => put_filled(buf, i, runs, columns, levels, cells),
         Answer::Refused(why) => put_refused(buf, why),
     }
 }

@@ -1,6 +1,6 @@
 -- `report::put_refused` meets its contract: the numbers are those of `numbered`.
 use borrow.Author.Needs.{needs}
-use Rattle.report.proofs.AnswerLines.{put-refusal-line}
+use Rattle.report.proofs.Answers.{put-refusal-line}
 use Rattle.report.proofs.put_refused.Statement.{statement}
 use Rattle.report.proofs.put_refused.Tie as tie
 

@@ -1,5 +1,6 @@
 -- `report::put_table` meets its contract: the three parts are put one after the other, and the buffer has room for them.
 use mathlib.Core.Path.{sym}
+use native.Mathlib.Omega.{arith}
 use borrow.Author.Needs.{needs}
 use Rattle.buffers.specs.Put.{Bytes}
 use Rattle.report.proofs.Answers.{many, levels-room, runs-room, put-printed}
@@ -15,7 +16,8 @@ slice-aggregate-put-row c = sym (many (c .before .before .before .before .before
 put-row-requires : tie.Need-put-row-requires
 put-row-requires c κs =
     let start = c .before .before .before .before .before .before .before .before .before in
-    levels-room (start .pre .1) (c .before .before .before .before .put-pair .ensures) (start .pre .0)
+    let fits = start .pre .1 in
+    levels-room fits (c .before .before .before .before .put-pair .ensures) (omega (arith, fits)) (omega (arith, fits)) (start .pre .0)
 
 bytes : (c : tie.After-put-runs-arg) → Bytes (c .before .before .before .before .before .before .before .before .before .before .before .before .before .args .levels .now)
 unfolding Bytes
@@ -25,7 +27,9 @@ put-runs-requires : tie.Need-put-runs-requires
 put-runs-requires c κs =
     let turn = c .before .before .before .before .before .before .before .before in
     let start = turn .before .before .before .before .before in
-    (runs-room (start .pre .1) (turn .put-pair .ensures) (c .before .before .before .put-row .ensures) (bytes c) (start .pre .0), start .pre .1 .cells-there)
+    let fits = start .pre .1 in
+    let room = runs-room fits (turn .put-pair .ensures) (omega (arith, fits)) (omega (arith, fits)) (c .before .before .before .put-row .ensures) in
+    (room (bytes c) (start .pre .0), fits .cells-there)
 
 same-length : tie.Need-same-length
 same-length c = search needs
