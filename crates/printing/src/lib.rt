@@ -1,4 +1,4 @@
-// An order planned, and what is printed of it put into one buffer.
+// An order planned, and what is printed of it put into one buffer: what the planner and the comparison with stored answers both rest on.
 ghost use Prim.Native.Nat.{_≤_};
 ghost use lib.ListN.{length};
 ghost use Rattle.buffers.specs.Put.{Put};

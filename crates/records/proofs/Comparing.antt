@@ -43,7 +43,8 @@ first-most byte (b ∷ bs) = first-by (eqb b byte) (firstPlace byte bs) (length 
 
 -- The comparison of two texts of one length, from a place on.
 module _ (text other : List ℕ) (at : ℕ) (even : length text ≡ length other) where
-  pub same-later : at < length text → getD text at 0 ≡ getD other at 0 → sameBytes (drop at text) (drop at other) ≡ sameBytes (drop (at + 1) text) (drop (at + 1) other)
+  pub same-later : at < length text → getD text at 0 ≡ getD other at 0
+      → sameBytes (drop at text) (drop at other) ≡ sameBytes (drop (at + 1) text) (drop (at + 1) other)
   unfolding sameBytes
   same-later h e =
       let h′ : at < length other = omega arith in

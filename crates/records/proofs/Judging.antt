@@ -128,12 +128,14 @@ module _ {answer : Answer} where
     unfolding Printable
     cells-within e fits = (rw e at fits) .cells-there
 
-    pub filled-rest : {runs columns : ℕ} {a b : Bool} → answer ≡ Filled runs columns → a ≡ allZero (drop columns levels) → b ≡ allZero (drop (runs * columns) table)
+    pub filled-rest : {runs columns : ℕ} {a b : Bool} → answer ≡ Filled runs columns → a ≡ allZero (drop columns levels)
+        → b ≡ allZero (drop (runs * columns) table)
         → (a && b) ≡ restZero answer levels table
     unfolding restZero
     filled-rest e f g = rw (e, f, g)
 
-    pub refused-rest : {why : Refusal} {a b : Bool} → answer ≡ Refused why → a ≡ allZero levels → b ≡ allZero table → (a && b) ≡ restZero answer levels table
+    pub refused-rest : {why : Refusal} {a b : Bool} → answer ≡ Refused why → a ≡ allZero levels → b ≡ allZero table
+        → (a && b) ≡ restZero answer levels table
     unfolding restZero
     refused-rest e f g = rw (e, f, g)
 
@@ -164,7 +166,8 @@ module _ {list table levels scratch : List ℕ} {answer : Answer} {table′ leve
   promise-clear = rw (promise .scratch-is) (zeros-zero (length scratch))
 
   pub promise-judged : (stored : List ℕ) {number : ℕ} {clear rest same : Bool} {printed : List ℕ} → number ≡ answerNumber answer
-      → clear ≡ allZero scratch′ → rest ≡ restZero answer levels′ table′ → printed ≡ outcomePrinted (planned list (length table) (length levels) (length scratch))
+      → clear ≡ allZero scratch′ → rest ≡ restZero answer levels′ table′
+      → printed ≡ outcomePrinted (planned list (length table) (length levels) (length scratch))
       → same ≡ sameBytes stored (61 ∷ 10 ∷ printed)
       → judgedBy number ((clear && rest) && same) ≡ judgedAs (planned list (length table) (length levels) (length scratch)) stored
   unfolding judgedAs

@@ -47,7 +47,8 @@ module _ (byte : ℕ) where
   ends-empty [] e = refl
   ends-empty (b ∷ bs) e = absurd (omega arith)
 
-  pub ends-by : (item : List ℕ) → (length item ≡ 0 → ⊥) → {line : Bool} → isLine (getD item 0 0) ≡ line → cond line (eqb byte 10) (eqb byte 59) ≡ endsItem item byte
+  pub ends-by : (item : List ℕ) → (length item ≡ 0 → ⊥) → {line : Bool} → isLine (getD item 0 0) ≡ line
+      → cond line (eqb byte 10) (eqb byte 59) ≡ endsItem item byte
   unfolding endsItem
   ends-by [] ne e = absurd (ne refl)
   ends-by (b ∷ bs) ne e = rw (← e)
@@ -81,7 +82,8 @@ module _ (room : ℕ) (tally : Tally) (lengths : Lengths) (item answers : List �
   by-empty (b ∷ bs) h = absurd (omega arith)
 
   by-first : (bytes : List ℕ) → 0 < length bytes
-      → cond (eqb (getD bytes 0 0) 64) (afterLengths (drop 1 bytes) before-it) (cond (eqb (getD bytes 0 0) 35) (afterNothing before-it) (afterRecord room before-it))
+      → cond (eqb (getD bytes 0 0) 64) (afterLengths (drop 1 bytes) before-it)
+      (cond (eqb (getD bytes 0 0) 35) (afterNothing before-it) (afterRecord room before-it))
       ≡ afterItemOf room bytes before-it
   by-first [] h = absurd (omega arith)
   by-first (b ∷ bs) h = refl
@@ -91,7 +93,8 @@ module _ (room : ℕ) (tally : Tally) (lengths : Lengths) (item answers : List �
   item-empty h = by-empty item h
 
   module _ (some : 0 < length item) where
-    pub item-lengths : {lengths′ : Lengths} → getD item 0 0 ≡ 64 → lengths′ ≡ lengthsGiven (drop 1 item) → progress tally lengths′ [] answers ≡ afterItem room before-it
+    pub item-lengths : {lengths′ : Lengths} → getD item 0 0 ≡ 64 → lengths′ ≡ lengthsGiven (drop 1 item)
+        → progress tally lengths′ [] answers ≡ afterItem room before-it
     unfolding afterItem
     item-lengths e given = ap (λ (l : Lengths). progress tally l [] answers) given ∙ (rw (eq-eqb _ 64 e) at (by-first item some))
 
@@ -125,7 +128,8 @@ module _ (item answers : List ℕ) (before : State) (byte : ℕ) where
 
   module _ (goes-on : endsItem (take (before .held) item) byte ≡ false) where
     pub byte-held : before .held < length item
-        → progress (before .tally) (before .lengths) (take (before .held + 1) (set item (before .held) byte)) answers ≡ afterByte (length item) (progressOf before item answers) byte
+        → progress (before .tally) (before .lengths) (take (before .held + 1) (set item (before .held) byte)) answers
+        ≡ afterByte (length item) (progressOf before item answers) byte
     unfolding afterByte
     byte-held h = ap (λ (l : List ℕ). progress (before .tally) (before .lengths) l answers) (held-next item (before .held) byte h) ∙ rw goes-on
 
@@ -135,7 +139,8 @@ module _ (item answers : List ℕ) (before : State) (byte : ℕ) where
 
 -- Some bytes.
 module _ (room : ℕ) (p : Progress) (bytes : List ℕ) (i : ℕ) where
-  pub text-next : {q : Progress} {room′ : ℕ} → room′ ≡ room → i < length bytes → q ≡ afterByte room′ p (getD bytes i 0) → afterText room p (drop i bytes) ≡ afterText room q (drop (i + 1) bytes)
+  pub text-next : {q : Progress} {room′ : ℕ} → room′ ≡ room → i < length bytes → q ≡ afterByte room′ p (getD bytes i 0)
+      → afterText room p (drop i bytes) ≡ afterText room q (drop (i + 1) bytes)
   unfolding afterText
   text-next r h e = rw (e, r, add-one, drop-cons bytes i 0)
 
@@ -155,10 +160,14 @@ more-both : (n m : ℕ) → n ≤ m → oneMore n ≤ oneMore m
 unfolding oneMore
 more-both n m h =
     by-cases (ltb n 18446744073709551615)
-    (λ t. rw t (by-cases (ltb m 18446744073709551615) (λ u. rw u (omega arith)) (λ u. rw u (omega (arith, ltb-true n 18446744073709551615 t, ltb-false m 18446744073709551615 u)))))
+    (λ t.
+    rw t
+    (by-cases (ltb m 18446744073709551615) (λ u. rw u (omega arith))
+    (λ u. rw u (omega (arith, ltb-true n 18446744073709551615 t, ltb-false m 18446744073709551615 u)))))
     (λ t. rw t (more-kept n m h))
 
-few-counted : (holds : Bool) (tally : Tally) → tally .differing ≤ tally .records → recordCounted holds tally .differing ≤ recordCounted holds tally .records
+few-counted : (holds : Bool) (tally : Tally) → tally .differing ≤ tally .records
+    → recordCounted holds tally .differing ≤ recordCounted holds tally .records
 unfolding recordCounted
 few-counted true tally h = more-kept (tally .differing) (tally .records) h
 few-counted false tally h = more-both (tally .differing) (tally .records) h

@@ -42,7 +42,7 @@ recordCounted holds tally =
 unfoldable pub answerCounted : ℕ → List ℕ → List ℕ
 answerCounted number answers = set answers number (oneMore (getD answers number 0))
 
--- After a record, which there is room for if it is shorter than the room. One that is not may lack bytes, and differs.
+-- After a record. Where it fills the room, bytes of it may be missing, and it differs.
 unfoldable pub afterRecord : ℕ → Progress → Progress
 afterRecord room p =
     let found = judged (p .item) (p .lengths) in

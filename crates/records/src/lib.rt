@@ -13,7 +13,8 @@
 //     ;
 //
 // An order goes up to "=" and the end of that line; then comes what the program `planner` prints, up to ";". A line with "@" gives the lengths of run
-// table, level list and scratch from there on, each as two numbers: 65,536 times the first, plus the second.
+// table, level list and scratch from there on, each as two numbers: 65,536 times the first, plus the second. A record without "=" differs, and so does
+// one of 262,144 bytes or more, for which there is no room.
 mod bytes; // bytes.rt: searches and comparisons of bytes
 mod judge; // judge.rt: one order and its stored answer
 mod summary; // summary.rt: what is counted and printed
@@ -39,7 +40,8 @@ pub struct Tally {
     pub differing: usize,
 }
 
-// How far a text has been compared: what is counted so far, the lengths of the buffers for the next record, and how many bytes of the next item are held.
+// How far a text has been compared: what is counted so far, the lengths of the buffers for the next record, and how many bytes of the next item are
+// held.
 struct State {
     tally: Tally,
     lengths: Lengths,

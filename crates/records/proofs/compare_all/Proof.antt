@@ -9,7 +9,8 @@ use Rattle.records.proofs.compare_all.Statement.{statement}
 use Rattle.records.proofs.compare_all.Tie as tie
 
 abbrev Inv-loop : tie.InvT-loop
-Inv-loop piece₀ item₀ counts₀ state₀ pieces-left₀ piece item counts state pieces-left = (length piece ≡ 4096) × (length item ≡ 262144) × (length counts ≡ 12) × (state .held ≤ 262144) × Underway (progressOf state item counts)
+Inv-loop piece₀ item₀ counts₀ state₀ pieces-left₀ piece item counts state pieces-left =
+    (length piece ≡ 4096) × (length item ≡ 262144) × (length counts ≡ 12) × (state .held ≤ 262144) × Underway (progressOf state item counts)
 
 abbrev μ-loop : tie.MeasureT-loop
 μ-loop piece₀ item₀ counts₀ state₀ pieces-left₀ piece item counts state pieces-left = pieces-left
@@ -56,7 +57,8 @@ loop-less c = search needs
 loop-again : tie.Need-loop-again Inv-loop μ-loop
 loop-again c =
     let turn = c .before .before .before .before .before .before .before .before .before .before .before .before .before in
-    (search needs, search needs, search needs, search needs, underway-piece (turn .loop .inv .4) _ (turn .loop .inv .1) (c .before .before .compare-piece .ensures .1))
+    let compared = c .before .before .compare-piece .ensures .1 in
+    (search needs, search needs, search needs, search needs, underway-piece (turn .loop .inv .4) _ (turn .loop .inv .1) compared)
 
 slice-aggregate-print-counts : tie.Need-slice-aggregate-print-counts Inv-loop μ-loop
 slice-aggregate-print-counts c = search needs

@@ -36,7 +36,8 @@ returns c =
     let ended = c .before .before .compare-item in
     let test = c .before .before .before .before .before in
     let args = test .before .before .before .before .before .args in
-    (omega (arith, ended .ensures .0), byte-ends (args .item .now) (args .counts .now) (args .before) (args .byte) (sym (test .before .ends-item .ensures) ∙ test .if1 .taken) (ended .ensures .0) (ended .ensures .1))
+    let ends = sym (test .before .ends-item .ensures) ∙ test .if1 .taken in
+    (omega (arith, ended .ensures .0), byte-ends (args .item .now) (args .counts .now) (args .before) (args .byte) ends (ended .ensures .0) (ended .ensures .1))
 
 same-length-3 : tie.Need-same-length-3
 same-length-3 c = search needs
@@ -45,7 +46,8 @@ returns-2 : tie.Need-returns-2
 returns-2 c =
     let test = c .before in
     let args = test .before .before .before .before .before .args in
-    (search needs, byte-cut (args .item .now) (args .counts .now) (args .before) (args .byte) (sym (test .before .ends-item .ensures) ∙ test .if1 .left) (c .if2 .taken))
+    let goes-on = sym (test .before .ends-item .ensures) ∙ test .if1 .left in
+    (search needs, byte-cut (args .item .now) (args .counts .now) (args .before) (args .byte) goes-on (c .if2 .taken))
 
 slice-write-item : tie.Need-slice-write-item
 slice-write-item c = search needs
@@ -60,7 +62,8 @@ returns-3 : tie.Need-returns-3
 returns-3 c =
     let test = c .before .before .before in
     let args = test .before .before .before .before .before .args in
-    (search needs, byte-held (args .item .now) (args .counts .now) (args .before) (args .byte) (sym (test .before .ends-item .ensures) ∙ test .if1 .left) (search needs))
+    let goes-on = sym (test .before .ends-item .ensures) ∙ test .if1 .left in
+    (search needs, byte-held (args .item .now) (args .counts .now) (args .before) (args .byte) goes-on (search needs))
 
 pub compare-byte-spec : {M : Type 1} → statement M
 compare-byte-spec =

@@ -28,7 +28,8 @@ compare-record-requires c κs = search needs
 returns : tie.Need-returns
 returns c =
     let test = c .before .before in
-    (refl, item-lengths _ _ _ _ _ (test .before .before .if1 .taken) (test .if2 .taken) (c .lengths-of .ensures ∙ ap lengthsGiven (rest-whole (test .before .before .before .before .before .before .before .args .item .now) 1)))
+    let item = test .before .before .before .before .before .before .before .args .item .now in
+    (refl, item-lengths _ _ _ _ _ (test .before .before .if1 .taken) (test .if2 .taken) (c .lengths-of .ensures ∙ ap lengthsGiven (rest-whole item 1)))
 
 same-length : tie.Need-same-length
 same-length c = search needs

@@ -34,7 +34,8 @@ returns : tie.Need-returns
 returns c =
     let joined = c .before .before in
     let judged = joined .before .before .before .before .before in
-    record-counted _ _ _ _ _ (judged .judge .ensures) (joined .before .before .before .count .ensures) (sym (c .if2 .taken) ∙ holds-is joined) (tally-holds _ (c .before .one-more .ensures))
+    record-counted _ _ _ _ _ (judged .judge .ensures) (joined .before .before .before .count .ensures) (sym (c .if2 .taken) ∙ holds-is joined)
+    (tally-holds _ (c .before .one-more .ensures))
 
 print-difference-requires : tie.Need-print-difference-requires
 print-difference-requires c κs = search needs
@@ -49,7 +50,8 @@ returns-2 : tie.Need-returns-2
 returns-2 c =
     let joined = c .before .before .before .before in
     let judged = joined .before .before .before .before .before in
-    record-counted _ _ _ _ _ (judged .judge .ensures) (joined .before .before .before .count .ensures) (sym (c .before .before .if2 .left) ∙ holds-is joined) (tally-differs _ (c .before .before .before .one-more .ensures) (c .one-more2 .ensures))
+    record-counted _ _ _ _ _ (judged .judge .ensures) (joined .before .before .before .count .ensures) (sym (c .before .before .if2 .left) ∙ holds-is joined)
+    (tally-differs _ (c .before .before .before .one-more .ensures) (c .one-more2 .ensures))
 
 pub compare-record-spec : {M : Type 1} → statement M
 compare-record-spec =

@@ -31,7 +31,8 @@ array-share-prefix-list : tie.Need-array-share-prefix-list
 array-share-prefix-list c = ended-room (c .before .before .before .scan .ensures .0) (c .before .count .given .1) (search needs)
 
 slice-aggregate-judge-list : tie.Need-slice-aggregate-judge-list
-slice-aggregate-judge-list c = sym (length-take-le _ _ (ended-room (c .before .before .before .before .scan .ensures .0) (c .before .before .count .given .1) (search needs)))
+slice-aggregate-judge-list c =
+    sym (length-take-le _ _ (ended-room (c .before .before .before .before .scan .ensures .0) (c .before .before .count .given .1) (search needs)))
 
 sub-judge-list : tie.Need-sub-judge-list
 sub-judge-list c = end-within (c .before .before .before .before .before .before .before)

@@ -19,7 +19,8 @@ zero-from-requires : tie.Need-zero-from-requires
 zero-from-requires c κs = search needs
 
 rest-is-zero-requires : tie.Need-rest-is-zero-requires
-rest-is-zero-requires c κs = promise-printable (c .before .before .before .before .before .before .before .before .before .before .before .plan-and-put .ensures .0)
+rest-is-zero-requires c κs =
+    promise-printable (c .before .before .before .before .before .before .before .before .before .before .before .plan-and-put .ensures .0)
 
 number-of-requires : tie.Need-number-of-requires
 number-of-requires c κs = search needs
@@ -28,7 +29,9 @@ array-share-prefix-printed : tie.Need-array-share-prefix-printed
 array-share-prefix-printed c = search needs
 
 slice-aggregate-is-stored : tie.Need-slice-aggregate-is-stored
-slice-aggregate-is-stored c = put-part (c .before .before .before .before .before .before .before .before .before .before .before .before .before .before .plan-and-put .ensures .1)
+slice-aggregate-is-stored c =
+    let looked = c .before .before .before .before .before .before .before in
+    put-part (looked .before .before .before .before .before .before .before .plan-and-put .ensures .1)
 
 is-stored-requires : tie.Need-is-stored-requires
 is-stored-requires c κs = search needs
@@ -45,8 +48,9 @@ same-length-3 c = search needs
 returns : tie.Need-returns
 returns c =
     let looked = c .before .before .before in
-    let planned = c .before .before .before .before .before .before .before .before .before .before .before .before .before .before .before .plan-and-put .ensures in
-    promise-judged (planned .0) _ (c .before .before .number-of .ensures) (looked .before .before .before .zero-from .ensures) (looked .rest-is-zero .ensures)
+    let planned = looked .before .before .before .before .before .before .before .before .before .before .before .before .plan-and-put .ensures in
+    promise-judged (planned .0) _ (c .before .before .number-of .ensures) (looked .before .before .before .zero-from .ensures)
+    (looked .rest-is-zero .ensures)
     (put-front (planned .1))
     (c .is-stored .ensures)
 

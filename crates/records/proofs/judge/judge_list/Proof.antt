@@ -44,7 +44,8 @@ returns c =
     let first = asked .before .before .within .ensures in
     let second = asked .before .within2 .ensures in
     let third = asked .within3 .ensures in
-    judged-alike _ _ (length-take-le _ _ (rw length-replicate (omega (arith, first))) ∙ first) (length-take-le _ _ (rw length-replicate (omega (arith, second))) ∙ second)
+    judged-alike _ _ (length-take-le _ _ (rw length-replicate (omega (arith, first))) ∙ first)
+    (length-take-le _ _ (rw length-replicate (omega (arith, second))) ∙ second)
     (length-take-le _ _ (rw length-replicate (omega (arith, third))) ∙ third)
     (c .before .before .before .judge-in .ensures)
 

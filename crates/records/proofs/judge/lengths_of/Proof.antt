@@ -17,7 +17,8 @@ array-share-prefix-list : tie.Need-array-share-prefix-list
 array-share-prefix-list c = ended-room (c .before .before .before .scan .ensures .0) (c .before .count .given .1) (search needs)
 
 slice-aggregate-lengths-in : tie.Need-slice-aggregate-lengths-in
-slice-aggregate-lengths-in c = sym (length-take-le _ _ (ended-room (c .before .before .before .before .scan .ensures .0) (c .before .before .count .given .1) (search needs)))
+slice-aggregate-lengths-in c =
+    sym (length-take-le _ _ (ended-room (c .before .before .before .before .scan .ensures .0) (c .before .before .count .given .1) (search needs)))
 
 lengths-in-requires : tie.Need-lengths-in-requires
 lengths-in-requires c κs = search needs
