@@ -13,7 +13,7 @@ use Rattle.finite.specs.Sum.{count}
 use Rattle.finite.proofs.Counts.{count-ext}
 use Rattle.finite.proofs.Tests.{T-and}
 use Rattle.counting.specs.Table.{Table, columns, levelsOf, shows, times, combinations, Apart, Settings, InRange, Even}
-use Rattle.sheets.specs.Refusals.{numberOf, answerNumbers}
+use Rattle.sheets.specs.Refusals.{refusalNumber, answerNumbers}
 use Rattle.sheets.specs.Sheet.{Sound, SmallEnough}
 use Rattle.sheets.specs.Steps.{Outcome, filled, refused}
 use Rattle.sheets.specs.Outcome.{outcome}
@@ -214,7 +214,7 @@ module _ (list table levels scratch : List ℕ) (answer : Answer) (table′ leve
       subst (λ n. EvenBytes n m table′ levels′) runs (subst (λ k. EvenBytes (S .runs) k table′ levels′) many (even-bytes S table′ levels′ holds sound (filled-some list done)))
 
   refused-for : (why : Refusal) → answer ≡ Refused why
-      → ((1 ≤ numberOf why) × (numberOf why ≤ 11)) × Cause list (lengthsOf table levels scratch) why
+      → ((1 ≤ refusalNumber why) × (refusalNumber why ≤ 11)) × Cause list (lengthsOf table levels scratch) why
   refused-for why e = (number-of-eleven why, refused-planned list table levels scratch (refused-answer _ (sym answered ∙ e)))
 
   in-numbers : answerNumbers answer ≡ plannedNumbers (planned list (length table) (length levels) (length scratch))

@@ -8,7 +8,7 @@ use lib.Dec.{eqb, leb}
 use lib.ListN.{length, getD}
 use Rattle.finite.specs.Sum.{count}
 use Rattle.counting.specs.Table.{Table, columns}
-use Rattle.sheets.specs.Refusals.{numbered, numberOf, answerNumbers}
+use Rattle.sheets.specs.Refusals.{numbered, refusalNumber, answerNumbers}
 use Rattle.sheets.specs.Steps.{Outcome, filled, refused}
 use Rattle.sheets.specs.Outcome.{outcome}
 use Rattle.sheets.specs.Fillable.{Fillable, orderedTable}
@@ -90,6 +90,6 @@ pub record Promise (list table levels scratch : List ℕ) (answer : Answer) (tab
   pub even : (N m : ℕ) → answer ≡ Filled N m → EvenBytes N m table′ levels′
   -- a refusal is one of the eleven, its number is 01's, and its cause holds: the first No, with all that its details name
   pub refused-for : (why : Refusal) → answer ≡ Refused why
-      → ((1 ≤ numberOf why) × (numberOf why ≤ 11)) × Cause list (lengthsOf table levels scratch) why
+      → ((1 ≤ refusalNumber why) × (refusalNumber why ≤ 11)) × Cause list (lengthsOf table levels scratch) why
   -- in numbers, the answer is 01's number and values: 0 with runs and columns for a filled order, or the refusal's
   pub in-numbers : answerNumbers answer ≡ plannedNumbers (planned list (length table) (length levels) (length scratch))

@@ -12,7 +12,7 @@ use lib.ListN.{length, getD, take, drop, set, length-append, drop-of-length-le}
 use lib.Seq.{length-take-le, take-all, take-at, take-suc-set, drop-cons, set-out}
 use Rattle.lines.proofs.Cases.{by-cases}
 use Rattle.records.specs.Record.{lengthsGiven, judged}
-use Rattle.records.specs.Text.{oneMore, Progress, isLine, endsItem, recordCounted, answerCounted, afterRecord, afterLengths, afterNothing, afterItemOf, afterItem, afterByte, afterText, start, compared, Compared}
+use Rattle.records.specs.Text.{oneMore, Comparison, isLine, endsItem, recordCounted, answerCounted, afterRecord, afterLengths, afterNothing, afterItemOf, afterItem, afterByte, afterText, start, compared, Compared}
 use Rattle.records.specs.State.{progress, progressOf}
 use Rattle.records.specs.declared.Tally.{Tally}
 use Rattle.records.specs.declared.State.{State}
@@ -74,7 +74,7 @@ module _ (room : ℕ) (tally : Tally) (lengths : Lengths) (item answers : List �
   unfolding afterRecord
   record-counted e counted holds-is tally-is = rw (tally-is, counted, holds-is, e)
 
-  abbrev before-it : Progress
+  abbrev before-it : Comparison
   before-it = progress tally lengths item answers
 
   by-empty : (bytes : List ℕ) → length bytes ≤ 0 → afterNothing before-it ≡ afterItemOf room bytes before-it
@@ -138,8 +138,8 @@ module _ (item answers : List ℕ) (before : State) (byte : ℕ) where
     byte-cut full = ap (λ (l : List ℕ). progress (before .tally) (before .lengths) l answers) (held-full item (before .held) byte full) ∙ rw goes-on
 
 -- Some bytes.
-module _ (room : ℕ) (p : Progress) (bytes : List ℕ) (i : ℕ) where
-  pub text-next : {q : Progress} {room′ : ℕ} → room′ ≡ room → i < length bytes → q ≡ afterByte room′ p (getD bytes i 0)
+module _ (room : ℕ) (p : Comparison) (bytes : List ℕ) (i : ℕ) where
+  pub text-next : {q : Comparison} {room′ : ℕ} → room′ ≡ room → i < length bytes → q ≡ afterByte room′ p (getD bytes i 0)
       → afterText room p (drop i bytes) ≡ afterText room q (drop (i + 1) bytes)
   unfolding afterText
   text-next r h e = rw (e, r, add-one, drop-cons bytes i 0)
@@ -149,7 +149,7 @@ module _ (room : ℕ) (p : Progress) (bytes : List ℕ) (i : ℕ) where
   text-end h = rw (drop-of-length-le bytes h)
 
 -- No more records differ than there are.
-abbrev Few : Progress → Type 0
+abbrev Few : Comparison → Type 0
 Few p = p .tally .differing ≤ p .tally .records
 
 more-kept : (n m : ℕ) → n ≤ m → n ≤ oneMore m
@@ -172,18 +172,18 @@ unfolding recordCounted
 few-counted true tally h = more-kept (tally .differing) (tally .records) h
 few-counted false tally h = more-both (tally .differing) (tally .records) h
 
-few-item : (room : ℕ) (item : List ℕ) (p : Progress) → Few p → Few (afterItemOf room item p)
+few-item : (room : ℕ) (item : List ℕ) (p : Comparison) → Few p → Few (afterItemOf room item p)
 unfolding afterRecord
 few-item room [] p h = h
 few-item room (b ∷ bs) p h =
     by-cases (eqb b 64) (λ t. rw t h)
     (λ t. rw t (by-cases (eqb b 35) (λ u. rw u h) (λ u. rw u (few-counted (ltb (length (p .item)) room && judged (p .item) (p .lengths) .same) (p .tally) h))))
 
-few-byte : (room : ℕ) (p : Progress) (byte : ℕ) → Few p → Few (afterByte room p byte)
+few-byte : (room : ℕ) (p : Comparison) (byte : ℕ) → Few p → Few (afterByte room p byte)
 unfolding afterByte afterItem
 few-byte room p byte h = by-cases (endsItem (p .item) byte) (λ t. rw t (few-item room (p .item) p h)) (λ t. rw t h)
 
-few-text : (room : ℕ) (bytes : List ℕ) (p : Progress) → Few p → Few (afterText room p bytes)
+few-text : (room : ℕ) (bytes : List ℕ) (p : Comparison) → Few p → Few (afterText room p bytes)
 unfolding afterText
 few-text room [] p h = h
 few-text room (b ∷ bs) p h = few-text room bs (afterByte room p b) (few-byte room p b h)
@@ -193,7 +193,7 @@ unfolding compared
 few-differ c = rw (c .tally-is) (few-text 262144 (flatten (c .pieces)) start (omega arith))
 
 -- Pieces that were compared one after the other.
-pub record Underway (p : Progress) : Type 0 where
+pub record Underway (p : Comparison) : Type 0 where
   pub pieces : List (List ℕ)
   pub reached : p ≡ compared (flatten pieces)
 
@@ -206,7 +206,7 @@ unfolding flatten
 flatten-snoc [] bytes = append-nil bytes
 flatten-snoc (piece ∷ pieces) bytes = ap (λ (l : List ℕ). piece ++ l) (flatten-snoc pieces bytes) ∙ sym (append-assoc piece (flatten pieces) bytes)
 
-pub underway-piece : {p q : Progress} {room : ℕ} → Underway p → (bytes : List ℕ) → room ≡ 262144 → q ≡ afterText room p bytes → Underway q
+pub underway-piece : {p q : Comparison} {room : ℕ} → Underway p → (bytes : List ℕ) → room ≡ 262144 → q ≡ afterText room p bytes → Underway q
 unfolding compared afterText
 underway-piece {p} so-far bytes r e =
     record {
@@ -214,10 +214,10 @@ underway-piece {p} so-far bytes r e =
       reached =
           e
           ∙ ap (λ (n : ℕ). afterText n p bytes) r
-          ∙ ap (λ (s : Progress). afterText 262144 s bytes) (so-far .reached)
+          ∙ ap (λ (s : Comparison). afterText 262144 s bytes) (so-far .reached)
           ∙ sym (foldl-append (afterByte 262144) start (flatten (so-far .pieces)) bytes)
           ∙ ap compared (sym (flatten-snoc (so-far .pieces) bytes));
     }
 
-pub underway-tally : {p : Progress} → Underway p → Compared (p .tally)
-underway-tally so-far = record { pieces = so-far .pieces; tally-is = ap (λ (p : Progress). p .tally) (so-far .reached) }
+pub underway-tally : {p : Comparison} → Underway p → Compared (p .tally)
+underway-tally so-far = record { pieces = so-far .pieces; tally-is = ap (λ (p : Comparison). p .tally) (so-far .reached) }

@@ -14,7 +14,7 @@ unfoldable pub oneMore : ℕ → ℕ
 oneMore n = cond (ltb n 18446744073709551615) (n + 1) n
 
 -- How far a text has been compared.
-pub record Progress : Type 0 where
+pub record Comparison : Type 0 where
   -- how many records there were, and how many of them differ
   pub tally : Tally
   -- how many came to each answer, by its number
@@ -43,7 +43,7 @@ unfoldable pub answerCounted : ℕ → List ℕ → List ℕ
 answerCounted number answers = set answers number (oneMore (getD answers number 0))
 
 -- After a record. Where it fills the room, bytes of it may be missing, and it differs.
-unfoldable pub afterRecord : ℕ → Progress → Progress
+unfoldable pub afterRecord : ℕ → Comparison → Comparison
 afterRecord room p =
     let found = judged (p .item) (p .lengths) in
     record {
@@ -54,36 +54,36 @@ afterRecord room p =
     }
 
 -- After a line of lengths, and after a line that says nothing.
-abbrev pub afterLengths : List ℕ → Progress → Progress
+abbrev pub afterLengths : List ℕ → Comparison → Comparison
 afterLengths line p = record { tally = p .tally; answers = p .answers; lengths = lengthsGiven line; item = [] }
 
-abbrev pub afterNothing : Progress → Progress
+abbrev pub afterNothing : Comparison → Comparison
 afterNothing p = record { tally = p .tally; answers = p .answers; lengths = p .lengths; item = [] }
 
 -- After an item that has these bytes.
-abbrev pub afterItemOf : ℕ → List ℕ → Progress → Progress
+abbrev pub afterItemOf : ℕ → List ℕ → Comparison → Comparison
 afterItemOf room [] p = afterNothing p
 afterItemOf room (first ∷ rest) p =
     cond (eqb first 64) (afterLengths rest p) (cond (eqb first 35) (afterNothing p) (afterRecord room p))
 
-unfoldable pub afterItem : ℕ → Progress → Progress
+unfoldable pub afterItem : ℕ → Comparison → Comparison
 afterItem room p = afterItemOf room (p .item) p
 
 -- A byte of an item more, as far as there is room.
-abbrev pub byteHeld : ℕ → ℕ → Progress → Progress
+abbrev pub byteHeld : ℕ → ℕ → Comparison → Comparison
 byteHeld room byte p =
     record { tally = p .tally; answers = p .answers; lengths = p .lengths; item = take room (p .item ++ (byte ∷ [])) }
 
 -- After a byte more, where there is room for so many bytes of an item.
-unfoldable pub afterByte : ℕ → Progress → ℕ → Progress
+unfoldable pub afterByte : ℕ → Comparison → ℕ → Comparison
 afterByte room p byte = cond (endsItem (p .item) byte) (afterItem room p) (byteHeld room byte p)
 
 -- After some bytes.
-unfoldable pub afterText : ℕ → Progress → List ℕ → Progress
+unfoldable pub afterText : ℕ → Comparison → List ℕ → Comparison
 afterText room p bytes = foldl (afterByte room) p bytes
 
 -- Before the first byte: nothing is counted, and the buffers are as long as document 01 asks.
-abbrev pub start : Progress
+abbrev pub start : Comparison
 start =
     record {
       tally = record { records = 0; differing = 0 };
@@ -93,7 +93,7 @@ start =
     }
 
 -- What a text comes to, where there is room for 262,144 bytes of an item. A record that is not ended is not counted.
-unfoldable pub compared : List ℕ → Progress
+unfoldable pub compared : List ℕ → Comparison
 compared text = afterText 262144 start text
 
 -- The tally of a text that was read in pieces. Nothing can say which bytes are read from standard input, so this says that there are such.

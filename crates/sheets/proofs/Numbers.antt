@@ -1,11 +1,11 @@
 -- The number of a refusal is one of 1 to 11. Assumes nothing.
 use Prim.Native.Nat.{_≤_}
 use lib.Dec.{lit≤}
-use Rattle.sheets.specs.Refusals.{numbered, numberOf}
+use Rattle.sheets.specs.Refusals.{numbered, refusalNumber}
 use Rattle.sheets.specs.declared.answer.Refusal.{Refusal}
 use Rattle.sheets.specs.declared.answer.Refusal.the-variants.{ShortBuffers, Unreadable, EntryOutOfRange, UnevenLevel, UnevenPair, UnevenDifference, Dependent, StepNotAllowed, PartsDoNotFit, NotTheSum, TooLarge}
 
-pub number-of-eleven : (why : Refusal) → (1 ≤ numberOf why) × (numberOf why ≤ 11)
+pub number-of-eleven : (why : Refusal) → (1 ≤ refusalNumber why) × (refusalNumber why ≤ 11)
 unfolding numbered
 number-of-eleven ShortBuffers = (lit≤ tt, lit≤ tt)
 number-of-eleven (Unreadable place) = (lit≤ tt, lit≤ tt)

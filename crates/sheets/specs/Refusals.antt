@@ -22,8 +22,8 @@ numbered (NotTheSum step run member) = 10 ∷ step ∷ run ∷ member ∷ 0 ∷ 
 numbered (TooLarge step runs columns) = 11 ∷ step ∷ runs ∷ columns ∷ 0 ∷ 0 ∷ 0 ∷ []
 
 -- the number alone
-abbrev pub numberOf : Refusal → ℕ
-numberOf why = getD (numbered why) 0 0
+abbrev pub refusalNumber : Refusal → ℕ
+refusalNumber why = getD (numbered why) 0 0
 
 -- An answer as seven numbers: a filled order has 0 in the place of a refusal's number, and then the numbers of runs and columns.
 unfoldable pub answerNumbers : Answer → List ℕ
