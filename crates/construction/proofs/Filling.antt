@@ -24,7 +24,8 @@ use Rattle.passing.specs.Passing.{passingOf, passingIn}
 use Rattle.passing.specs.declared.Passing.the-variants.{AllPass, Refused}
 use Rattle.layout.specs.Step.{Readable}
 use Rattle.layout.proofs.Operands.{in-order}
-use Rattle.construction.specs.Carry.{Passing, allIn, passedIn}
+use Rattle.carrying.specs.Carrying.{Passing, allIn}
+use Rattle.construction.specs.Filling.{passedIn}
 
 -- ---- question 2
 

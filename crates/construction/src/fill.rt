@@ -2,9 +2,9 @@
 ghost use Rattle.sheets.specs.Outcome.{outcome};
 ghost use Rattle.layout.specs.Bytes.{Zeros, LongEnough};
 ghost use Rattle.layout.specs.Step.{Readable};
-ghost use Rattle.construction.specs.Carry.{passedIn};
+ghost use Rattle.construction.specs.Filling.{passedIn};
 ghost use Rattle.promise.specs.Promise.{Settled};
-use crate::carry::carry_or_clear;
+use carrying::carry_or_clear;
 use entry_range::first_out_of_range;
 use order::Entries;
 use order::Reading;

@@ -1,5 +1,4 @@
 // The construction of a run table from an order, in five kinds of steps: the planner.
-mod carry; // carry.rt: the steps, one after the other
 mod fill; // fill.rt: questions 2 to 8
 
 ghost use mathlib.Core.Path.{_≡_};

@@ -2,9 +2,9 @@
 use borrow.Author.Needs.{needs}
 use mathlib.Core.Path.{refl, sym, _∙_}
 use Rattle.layout.specs.Step.{Left}
-use Rattle.construction.proofs.Carrying.{proceed-found, proceed-missing}
-use Rattle.construction.proofs.carry.proceed.Statement.{statement}
-use Rattle.construction.proofs.carry.proceed.Tie as tie
+use Rattle.stepping.proofs.Stepping.{proceed-found, proceed-missing}
+use Rattle.stepping.proofs.proceed.Statement.{statement}
+use Rattle.stepping.proofs.proceed.Tie as tie
 
 step-at-requires : tie.Need-step-at-requires
 step-at-requires c κs = search needs

@@ -7,10 +7,10 @@ use native.Mathlib.Omega.{arith}
 use borrow.Author.Needs.{needs}
 use borrow.Author.Tests.{not-true, not-false}
 use Rattle.layout.specs.Step.{Left}
-use Rattle.construction.specs.Carry.{kindAllowed}
-use Rattle.construction.proofs.Carrying.{allowed-first, allowed-later, numbered-first, numbered-later, numbered-refused, no-other-kind}
-use Rattle.construction.proofs.carry.step.Statement.{statement}
-use Rattle.construction.proofs.carry.step.Tie as tie
+use Rattle.stepping.specs.Stepping.{kindAllowed}
+use Rattle.stepping.proofs.Stepping.{allowed-first, allowed-later, numbered-first, numbered-later, numbered-refused, no-other-kind}
+use Rattle.stepping.proofs.step.Statement.{statement}
+use Rattle.stepping.proofs.step.Tie as tie
 
 abbrev start-of : tie.Else1 → tie.Start
 start-of c = c .before .before .before .before .before .before

@@ -9,9 +9,9 @@ use lib.ListN.{length}
 use Rattle.order.specs.Grammar.{readOrder}
 use Rattle.places.specs.Places.{stepCount}
 use Rattle.layout.specs.declared.Size.{Size}
-use Rattle.construction.proofs.Carrying.{Underway, underway-start, underway-numbered, underway-prepared, steps-counted, steps-few, step-refused, step-filled, none-left}
-use Rattle.construction.proofs.carry.carry_out.Statement.{statement}
-use Rattle.construction.proofs.carry.carry_out.Tie as tie
+use Rattle.carrying.proofs.Carrying.{Underway, underway-start, underway-numbered, underway-prepared, steps-counted, steps-few, step-refused, step-filled, none-left}
+use Rattle.carrying.proofs.carry_out.Statement.{statement}
+use Rattle.carrying.proofs.carry_out.Tie as tie
 
 abbrev Inv-loop : tie.InvT-loop
 Inv-loop list table₀ levels₀ scratch₀ last size₀ number₀ table levels scratch size number =

@@ -1,8 +1,8 @@
 -- `construction::carry::carry_or_clear` meets its contract: what the steps leave, and zeros where one refuses.
 use borrow.Author.Needs.{needs}
 use Rattle.promise.proofs.Promises.{settled-filled, settled-refused}
-use Rattle.construction.proofs.carry.carry_or_clear.Statement.{statement}
-use Rattle.construction.proofs.carry.carry_or_clear.Tie as tie
+use Rattle.carrying.proofs.carry_or_clear.Statement.{statement}
+use Rattle.carrying.proofs.carry_or_clear.Tie as tie
 
 carry-out-requires : tie.Need-carry-out-requires
 carry-out-requires c κs = search needs

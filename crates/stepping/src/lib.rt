@@ -1,19 +1,15 @@
-// The steps of an order, one after the other: a step's questions come before the next step's.
+// One step of an order, by its number, on the sheet in hand.
 ghost use mathlib.Core.Path.{_≡_};
 ghost use Prim.Native.Nat.{_≤_};
-ghost use lib.ListN.{length};
-ghost use Rattle.layout.specs.Bytes.{Zeros, LongEnough};
+ghost use Rattle.layout.specs.Bytes.{Zeros};
 ghost use Rattle.layout.specs.Step.{Stands, Left};
-ghost use Rattle.construction.specs.Carry.{Passing, Prepared, kindAllowed, inHand, numberedIn, proceedIn, allIn, lastIn, handRuns, handLevels};
-ghost use Rattle.promise.specs.Promise.{Settled};
-use buffers::clear;
+ghost use Rattle.stepping.specs.Stepping.{Prepared, kindAllowed, inHand, numberedIn, proceedIn};
 use layout::Size;
 use merging::merge;
 use opening::field::field;
 use opening::take::take;
 use places::Placed;
 use places::step_at;
-use places::step_count;
 use sheets::answer::Answer;
 use sheets::answer::Refusal;
 use splitting::split;
@@ -59,7 +55,7 @@ fn step(
 }
 
 // Step number n of the list, on the sheet in hand.
-fn proceed(
+pub fn proceed(
     list: &[u16],
     number: usize,
     size: Size,
@@ -86,57 +82,5 @@ fn proceed(
             )
         }
         Placed::Missing => Answer::Refused(Refusal::StepNotAllowed { step: number }),
-    }
-}
-
-// All steps, in turn. There is no sheet in hand at the start; a step that refuses the order leaves the one before it.
-fn carry_out(list: &[u16], table: &mut [u8], levels: &mut [u8], scratch: &mut [u8]) -> Answer
-    requires { ⌜ Passing (now list) ⌝ }
-    requires { ⌜ LongEnough (now table) (now levels) (now scratch) ⌝ }
-    requires { ⌜ Zeros (now table) × Zeros (now levels) × Zeros (now scratch) ⌝ }
-    ensures { λ r. ⌜ Left (allIn (now (list .entry))) (handRuns (length (now (table .entry))) (lastIn (now (list .entry)))) (handLevels (length (now (levels .entry))) (lastIn (now (list .entry)))) r (now (table .exit)) (now (levels .exit)) ⌝ }
-    ensures { λ r. ⌜ Zeros (now (scratch .exit)) ⌝ }
-{
-    let last = step_count(list);
-    let mut size = Size {
-        runs: 0,
-        columns: 0,
-    };
-    let mut number = 1;
-    while number <= last {
-        match proceed(list, number, size, table, levels, scratch) {
-            Answer::Filled { runs, columns } => {
-                size = Size { runs, columns };
-            }
-            Answer::Refused(why) => return Answer::Refused(why),
-        }
-        number += 1;
-    }
-    Answer::Filled {
-        runs: size.runs,
-        columns: size.columns,
-    }
-}
-
-// All steps; where one of them refuses the order, the sheet that it left is cleared.
-pub(crate) fn carry_or_clear(
-    list: &[u16],
-    table: &mut [u8],
-    levels: &mut [u8],
-    scratch: &mut [u8],
-) -> Answer
-    requires { ⌜ Passing (now list) ⌝ }
-    requires { ⌜ LongEnough (now table) (now levels) (now scratch) ⌝ }
-    requires { ⌜ Zeros (now table) × Zeros (now levels) × Zeros (now scratch) ⌝ }
-    ensures { λ r. ⌜ Settled (allIn (now (list .entry))) r (now (table .exit)) (now (levels .exit)) ⌝ }
-    ensures { λ r. ⌜ Zeros (now (scratch .exit)) ⌝ }
-{
-    match carry_out(list, table, levels, scratch) {
-        Answer::Filled { runs, columns } => Answer::Filled { runs, columns },
-        Answer::Refused(why) => {
-            clear(table);
-            clear(levels);
-            Answer::Refused(why)
-        }
     }
 }

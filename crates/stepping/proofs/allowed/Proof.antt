@@ -1,8 +1,8 @@
 -- `construction::carry::allowed` meets its contract: the number of the step decides which comparison is asked.
 use borrow.Author.Tests.{eq-eqb, ne-eqb}
-use Rattle.construction.specs.Carry.{kindAllowed}
-use Rattle.construction.proofs.carry.allowed.Statement.{statement}
-use Rattle.construction.proofs.carry.allowed.Tie as tie
+use Rattle.stepping.specs.Stepping.{kindAllowed}
+use Rattle.stepping.proofs.allowed.Statement.{statement}
+use Rattle.stepping.proofs.allowed.Tie as tie
 
 returns : tie.Need-returns
 unfolding kindAllowed
