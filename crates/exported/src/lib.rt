@@ -1,9 +1,7 @@
 // The planner for programs in Rust, C and other languages: numbers and slices alone. include/yurbantze.h is the declaration for C.
-mod numbers; // numbers.rt: an answer as seven numbers
-
 ghost use Rattle.exported.specs.Exported.{PromiseInNumbers};
 use construction::plan;
-use numbers::answer_numbers;
+use numbering::answer_numbers;
 
 // Plans an order, as `construction::plan` does. The answer is seven numbers: 0, the numbers of runs and columns, and zeros for a filled order, or
 // 01's number of the refusal and its six details. The first is returned. Nothing is required of a caller: any list is answered, whatever the

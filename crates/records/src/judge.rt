@@ -13,11 +13,11 @@ ghost use Rattle.records.specs.Record.{lengthsIn, lengthsGiven, cameTo, 
 use crate::bytes::find;
 use crate::bytes::same;
 use crate::bytes::zero_from;
+use numbering::numbers_of;
 use printing::plan_and_put;
 use report::put_refused;
 use sheets::answer::Answer;
 use sheets::answer::Refusal;
-use sheets::answer::numbers_of;
 use words::Scan;
 use words::Scanned;
 

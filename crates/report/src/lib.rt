@@ -8,9 +8,9 @@ ghost use Rattle.report.specs.Report.{refusalLine, answerPrinted, answer
 use lines::put_pair;
 use lines::put_refusal;
 use lines::put_row;
+use numbering::numbers_of;
 use sheets::answer::Answer;
 use sheets::answer::Refusal;
-use sheets::answer::numbers_of;
 
 // The one line of a refusal, at the front of a buffer.
 pub fn put_refused(buf: &mut [u8], why: Refusal) -> usize

@@ -1,9 +1,9 @@
 -- `numbers_of` meets its contract: each arm has the numbers of its own case.
 use borrow.Author.Needs.{needs}
 use mathlib.Core.Path.{sym, ap}
 use Rattle.sheets.specs.Refusals.{numbered}
-use Rattle.sheets.proofs.answer.numbers_of.Statement.{statement}
-use Rattle.sheets.proofs.answer.numbers_of.Tie as tie
+use Rattle.numbering.proofs.numbers_of.Statement.{statement}
+use Rattle.numbering.proofs.numbers_of.Tie as tie
 
 enum-told : tie.Need-enum-told
 enum-told c = search needs

@@ -2,8 +2,8 @@
 use borrow.Author.Needs.{needs}
 use mathlib.Core.Path.{sym, _∙_, ap}
 use Rattle.sheets.specs.Refusals.{answerNumbers}
-use Rattle.exported.proofs.numbers.answer_numbers.Statement.{statement}
-use Rattle.exported.proofs.numbers.answer_numbers.Tie as tie
+use Rattle.numbering.proofs.answer_numbers.Statement.{statement}
+use Rattle.numbering.proofs.answer_numbers.Tie as tie
 
 enum-known-answer : tie.Need-enum-known-answer
 enum-known-answer c = search needs
