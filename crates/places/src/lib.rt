@@ -2,6 +2,12 @@
 ghost use mathlib.Core.Path.{_≡_};
 ghost use Rattle.order.specs.Grammar.{readOrder};
 ghost use Rattle.places.specs.Places.{ingredientsStart, stepsStart, ingredientCount, stepCount, ingredientAt, stepAt, ingredientAfter, stepAfter};
+use list_ingredients::counted_ingredients;
+use list_ingredients::ingredient;
+use list_ingredients::ingredients;
+use list_numbers::number;
+use list_steps::step;
+use list_steps::steps;
 use order::Cursor;
 use order::Located;
 use order::Number;
@@ -9,13 +15,7 @@ use order::Reading;
 use order::Spot;
 use order::Stage;
 use order::Walk;
-use reading::ingredients::counted_ingredients;
-use reading::ingredients::ingredient;
-use reading::ingredients::ingredients;
-use reading::numbers::number;
 use reading::read;
-use reading::steps::step;
-use reading::steps::steps;
 
 // A step of the list: its kind, and the place where its operands start.
 pub enum Placed {

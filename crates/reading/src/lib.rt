@@ -1,15 +1,11 @@
 // Reads an order: a list of 16-bit numbers (document 01, "The order"; question 2).
-pub mod ingredients; // ingredients.rt: an ingredient, with the places where its numbers start
-pub mod numbers; // numbers.rt: single numbers and series of them
-pub mod steps; // steps.rt: a step, with the place where its operands start
-
 ghost use mathlib.Core.Path.{_≡_};
 ghost use Rattle.order.specs.Grammar.{readOrder};
 ghost use Rattle.order.specs.Answers.{readingOf};
-use ingredients::counted_ingredients;
+use list_ingredients::counted_ingredients;
+use list_steps::counted_steps;
 use order::Reading;
 use order::Walk;
-use steps::counted_steps;
 
 // Question 2: does the list read to its exact end?
 pub fn read(list: &[u16]) -> Reading
