@@ -3,7 +3,7 @@
 use mathlib.Core.Path.{_≡_, refl, sym, _∙_, ap, subst}
 use mathlib.Core.Bool.{Bool, true, false, cond}
 use mathlib.Core.List.{List, []}
-use Prim.Native.Nat.{ℕ, _+_, _-_, _≤_}
+use Prim.Native.Nat.{ℕ, zero, suc, _+_, _-_, _≤_}
 use native.Mathlib.Omega.{arith}
 use lib.Dec.{T}
 use lib.ListN.{length, getD, take, drop}
@@ -20,18 +20,27 @@ use Rattle.sheets.specs.declared.answer.Answer.the-variants.{Refused}
 use Rattle.sheets.proofs.Ingredients.{all-getD}
 use Rattle.sheets.proofs.Merge.{merge-columns}
 use Rattle.sheets.proofs.StepQuestions.{size-decides, merge-decides}
-use Rattle.layout.specs.Bytes.{sheetIn}
+use Rattle.layout.specs.Bytes.{zeros, sheetIn}
 use Rattle.layout.specs.Step.{Readable, Stands, Ready, laterIn, Left}
-use Rattle.merging.specs.Merging.{membersOf, Named, Fitting, asFault}
+use Rattle.merge_questions.specs.Questions.{membersOf, Named, Fitting, roleOf, HasRoles, asFault}
 use Rattle.layout.specs.declared.Size.{Size}
-use Rattle.merging.specs.declared.Fault.the-variants.{Nowhere, At}
+use Rattle.merge_questions.specs.declared.Fault.the-variants.{Nowhere, At}
 use Rattle.layout.proofs.Sheets.{ready-few, ready-used}
 use Rattle.layout.proofs.Operands.{later-in, operands-stand}
-use Rattle.merging.proofs.Members.{at-found, nowhere-found}
+use Rattle.merge_questions.proofs.Members.{at-found, nowhere-found}
 
 true-of : (b : Bool) → T b → b ≡ true
 true-of true t = refl
 true-of false t = absurd t
+
+-- ---- before question 6
+
+-- zeros are the roles without members
+pub roles-clear : (n : ℕ) → HasRoles [] (zeros n)
+unfolding HasRoles roleOf
+roles-clear zero q = refl
+roles-clear (suc n) zero = refl
+roles-clear (suc n) (suc q) = roles-clear n q
 
 -- ---- p and the members
 

@@ -5,8 +5,7 @@ use borrow.Author.Needs.{needs}
 use borrow.Author.Tests.{not-true, not-false}
 use lib.Seq.{length-take-le}
 use Rattle.layout.proofs.Sheets.{ready-few}
-use Rattle.merging.proofs.Roles.{roles-clear}
-use Rattle.merging.proofs.Operands.{merge-end, merge-named, merge-refused, merge-fitting, merge-wrong, merge-done}
+use Rattle.merging.proofs.Operands.{roles-clear, merge-end, merge-named, merge-refused, merge-fitting, merge-wrong, merge-done}
 use Rattle.merging.proofs.merge.Statement.{statement}
 use Rattle.merging.proofs.merge.Tie as tie
 

@@ -1,0 +1,4 @@
+pub mod Rows
+pub mod Settled
+pub mod Sheet
+pub mod Stops
