@@ -1,4 +1,3 @@
 pub mod Cases
-pub mod Decimals
 pub mod Rows
 pub mod Runs

@@ -8,7 +8,8 @@ use native.Mathlib.Omega.{arith}
 use lib.ListN.{length, getD, take, drop, length-drop}
 use lib.Seq.{take-suc, take-all}
 use Rattle.buffers.specs.Put.{Put}
-use Rattle.lines.specs.Lines.{decimalDigits, spaced, line}
+use Rattle.decimals.specs.Decimals.{decimalDigits}
+use Rattle.lines.specs.Lines.{spaced, line}
 use Rattle.buffers.proofs.Puts.{put-none, put-join, put-length}
 
 spaced-snoc : (ns : List ℕ) (n : ℕ) → spaced (ns ++ (n ∷ [])) ≡ spaced ns ++ (32 ∷ decimalDigits n)

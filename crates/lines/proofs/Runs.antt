@@ -7,8 +7,9 @@ use native.Mathlib.Omega.{arith}
 use lib.ListN.{length, take, drop, length-append, length-take, length-drop}
 use lib.Seq.{getD-take, getD-drop, drop-drop}
 use Rattle.buffers.specs.Put.{Bytes}
-use Rattle.lines.specs.Lines.{decimalDigits, spaced, line, runLines}
-use Rattle.lines.proofs.Decimals.{decimal-byte}
+use Rattle.decimals.specs.Decimals.{decimalDigits}
+use Rattle.lines.specs.Lines.{spaced, line, runLines}
+use Rattle.decimals.proofs.Decimals.{decimal-byte}
 
 next : (runs m : ℕ) → m + runs * m ≡ suc runs * m
 next runs m = omega (arith, suc-mul runs m)

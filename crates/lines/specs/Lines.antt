@@ -1,20 +1,8 @@
 -- What is printed: document 01, "Printed runs". Text is the list of its bytes.
-use mathlib.Core.Bool.{cond}
 use mathlib.Core.List.{List, [], _∷_, _++_}
-use Prim.Native.Nat.{ℕ, zero, suc, _+_, _/_, _%_}
-use lib.Dec.{ltb}
+use Prim.Native.Nat.{ℕ, zero, suc}
 use lib.ListN.{length, take, drop}
-
--- The decimal digits of n, of which there are at most so many after the first.
-abbrev pub digitsWithin : ℕ → ℕ → List ℕ
-digitsWithin zero n = (48 + n) ∷ []
-digitsWithin (suc most) n =
-    let more = digitsWithin most (n / 10) ++ ((48 + n % 10) ∷ []) in
-    cond (ltb n 10) ((48 + n) ∷ []) more
-
--- The decimal digits of n, with no leading zero; 0 is "0". Digit d is the byte 48 + d.
-unfoldable pub decimalDigits : ℕ → List ℕ
-decimalDigits n = digitsWithin n n
+use Rattle.decimals.specs.Decimals.{decimalDigits}
 
 -- Each number with a space before it.
 abbrev pub spaced : List ℕ → List ℕ

@@ -4,21 +4,11 @@ ghost use Prim.Native.Nat.{_+_, _*_, _≤_, _<_};
 ghost use mathlib.Core.List.{[], _∷_, _++_};
 ghost use lib.ListN.{length};
 ghost use Rattle.buffers.specs.Put.{Put};
-ghost use Rattle.lines.specs.Lines.{decimalDigits, spaced, line, refusedLine};
+ghost use Rattle.decimals.specs.Decimals.{decimalDigits};
+ghost use Rattle.lines.specs.Lines.{spaced, line, refusedLine};
 use buffers::put_byte;
 use buffers::put_bytes;
-
-// A number in decimal: the digits before the last are those of a tenth of it.
-pub fn put_number(buf: &mut [u8], at: usize, value: usize) -> usize
-    requires { ⌜ at + length (decimalDigits value) ≤ length (now buf) ⌝ }
-    ensures { λ r. ⌜ Put (now (buf .entry)) at (decimalDigits value) (now (buf .exit)) r ⌝ }
-{
-    if value < 10 {
-        return put_byte(buf, at, 48 + value as u8);
-    }
-    let place = put_number(buf, at, value / 10);
-    put_byte(buf, place, 48 + (value % 10) as u8)
-}
+use decimals::put_number;
 
 // A space and a number.
 fn put_spaced(buf: &mut [u8], at: usize, value: usize) -> usize

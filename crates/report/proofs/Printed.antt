@@ -19,7 +19,8 @@ use Rattle.sheets.specs.Steps.{proceed, provided, opening, operation, fits, wro
 use Rattle.sheets.specs.Outcome.{rangeRefusal, ingredientRefusal, ingredientsRefusal, unless, readOutcome, outcome}
 use Rattle.sheets.proofs.Starred.{Example, computed, examples, starred}
 use Rattle.words.specs.Words.{isGap, words, isDigit, decimal, isNumber, reading}
-use Rattle.lines.specs.Lines.{decimalDigits, line, printed}
+use Rattle.decimals.specs.Decimals.{decimalDigits}
+use Rattle.lines.specs.Lines.{line, printed}
 use Rattle.report.specs.Report.{outcomePrinted, output}
 
 abbrev pub input : List ℕ

@@ -6,9 +6,9 @@ use native.Mathlib.Nat.{le-refl}
 use native.Mathlib.Omega.{arith}
 use borrow.Author.Tests.{le-leb, ltb-true, ltb-false}
 use lib.Dec.{ltb}
-use Rattle.lines.proofs.Decimals.{decimal-one, decimal-more}
+use Rattle.decimals.proofs.Decimals.{decimal-one, decimal-more}
 use Rattle.words.specs.Words.{isDigit, allDigits, decimal, isNumber}
-use Rattle.lines.specs.Lines.{decimalDigits}
+use Rattle.decimals.specs.Decimals.{decimalDigits}
 use Rattle.lines.proofs.Cases.{by-cases}
 use Rattle.words.proofs.Cuts.{decimal-snoc, digits-snoc}
 

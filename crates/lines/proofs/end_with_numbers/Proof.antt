@@ -4,12 +4,12 @@ use Prim.Native.Nat.{_-_, _<_, suc-le-suc}
 use native.Mathlib.Omega.{arith}
 use borrow.Author.Needs.{needs}
 use lib.ListN.{length, getD}
-use Rattle.lines.specs.Lines.{decimalDigits}
+use Rattle.decimals.specs.Decimals.{decimalDigits}
 use Rattle.buffers.proofs.Puts.{put-join, put-length}
 use Rattle.lines.proofs.Rows.{First, first-none, first-all, first-end, first-room, first-next}
 use Rattle.lines.proofs.end_with_numbers.Statement.{statement}
 use Rattle.lines.proofs.end_with_numbers.Tie as tie
-use Rattle.lines.proofs.Decimals.{decimal-word}
+use Rattle.decimals.proofs.Decimals.{decimal-word}
 
 abbrev Inv-loop : tie.InvT-loop
 Inv-loop buf₀ at numbers place₀ i₀ buf place i = First 21 numbers buf₀ at i buf place

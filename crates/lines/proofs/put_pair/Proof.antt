@@ -5,7 +5,7 @@ use Rattle.buffers.proofs.Puts.{put-join}
 use Rattle.lines.proofs.Rows.{line-pair}
 use Rattle.lines.proofs.put_pair.Statement.{statement}
 use Rattle.lines.proofs.put_pair.Tie as tie
-use Rattle.lines.proofs.Decimals.{decimal-word}
+use Rattle.decimals.proofs.Decimals.{decimal-word}
 
 put-number-requires : tie.Need-put-number-requires
 put-number-requires c κs = omega (arith, decimal-word _ (c .before .before .fits .first .fits))

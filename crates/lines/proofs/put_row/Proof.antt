@@ -4,7 +4,7 @@ use native.Mathlib.Omega.{arith}
 use Rattle.lines.proofs.Rows.{row-none, row-some, rest-length}
 use Rattle.lines.proofs.put_row.Statement.{statement}
 use Rattle.lines.proofs.put_row.Tie as tie
-use Rattle.lines.proofs.Decimals.{decimal-byte}
+use Rattle.decimals.proofs.Decimals.{decimal-byte}
 
 put-byte-requires : tie.Need-put-byte-requires
 put-byte-requires c κs = search needs

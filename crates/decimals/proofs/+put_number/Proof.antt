@@ -5,13 +5,13 @@ use native.Mathlib.Omega.{arith}
 use borrow.Fn.Kinds.{In}
 use borrow.Fn.PlainCycle.{Measures, is, falls, and}
 use Rattle.buffers.proofs.Puts.{put-join}
-use Rattle.lines.proofs.put_number.Reads as reads
-use Rattle.lines.proofs.put_number.Kinds as kinds
-use Rattle.lines.proofs.+put_number.Lts-put_number as lts
+use Rattle.decimals.proofs.put_number.Reads as reads
+use Rattle.decimals.proofs.put_number.Kinds as kinds
+use Rattle.decimals.proofs.+put_number.Lts-put_number as lts
 use Rattle.buffers.proofs.put_byte.Reads as put-byte-reads
-use Rattle.lines.proofs.+put_number.{statement}
-use Rattle.lines.proofs.+put_number.Tie.{close}
-use Rattle.lines.proofs.Decimals.{decimal-one, decimal-more, length-one, length-more}
+use Rattle.decimals.proofs.+put_number.{statement}
+use Rattle.decimals.proofs.+put_number.Tie.{close}
+use Rattle.decimals.proofs.Decimals.{decimal-one, decimal-more, length-one, length-more}
 
 abbrev μ : Measures 1 kinds.ps ℕ
 μ κs a = a .1 .1 .0
