@@ -14,7 +14,7 @@ ghost use Rattle.sheets.specs.Sum.{adjoinedTable};
 ghost use Rattle.sheets.specs.Steps.{sum as SUM, sized, operate};
 ghost use Rattle.layout.specs.Bytes.{zeros, Zeros, sheetIn};
 ghost use Rattle.layout.specs.Step.{Readable, Stands, Ready, laterIn, Left};
-ghost use Rattle.summing.specs.Summing.{matrixAt, matricesAt, partsFit, EntriesStand, Serves, nextSheet, isMissing, Adjoins};
+ghost use Rattle.sum_bytes.specs.Summing.{matrixAt, matricesAt, partsFit, EntriesStand, Serves, nextSheet, isMissing, Adjoins};
 use crate::matrices::all_name_matrices;
 use crate::matrices::all_served;
 use crate::matrices::matrix_named;

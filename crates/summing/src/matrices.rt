@@ -11,17 +11,10 @@ ghost use Rattle.places.specs.Places.{ingredientAt};
 ghost use Rattle.sheets.specs.Lists.{allOf};
 ghost use Rattle.layout.specs.Bytes.{zeros};
 ghost use Rattle.layout.specs.Step.{Readable};
-ghost use Rattle.summing.specs.Summing.{matrixPlace, matrixAt, matricesAt, fitTogether, Serves};
+ghost use Rattle.sum_bytes.specs.Summing.{matrixPlace, matrixAt, matricesAt, fitTogether, Serves};
 use order::Located;
 use places::ingredient_at;
-
-// A matrix of the list: its sizes, and the place where its entries start. One with no rows stands for none.
-pub(crate) struct MatrixPlace {
-    pub(crate) rows: usize,
-    pub(crate) columns: usize,
-    pub(crate) p: usize,
-    pub(crate) start: usize,
-}
+use sum_bytes::MatrixPlace;
 
 // The matrix that a number names.
 pub(crate) fn matrix_named(list: &[u16], d: usize) -> MatrixPlace

@@ -10,7 +10,7 @@ ghost use Rattle.sheets.specs.Sheet.{SmallEnough};
 ghost use Rattle.sheets.specs.Sum.{levelSum};
 ghost use Rattle.layout.specs.Bytes.{Holds, Zeros};
 ghost use Rattle.layout.specs.Step.{Ready};
-ghost use Rattle.summing.specs.Summing.{EntriesStand, RowStands, RunStands, SheetStands, summedLevels, summedRun, builtRun, nextSheet, Adjoins};
+ghost use Rattle.sum_bytes.specs.Summing.{EntriesStand, RowStands, RunStands, SheetStands, summedLevels, summedRun, builtRun, nextSheet, Adjoins};
 use buffers::put_byte;
 use ingredients::named::NamedTable;
 use layout::Size;

@@ -3,7 +3,7 @@ use mathlib.Core.Path.{sym, _∙_, ap}
 use borrow.Author.Needs.{needs}
 use lib.Dec.{eqb}
 use Rattle.counting.specs.Table.{Table}
-use Rattle.summing.proofs.SumMeets.{adjoins-missing, adjoins-table}
+use Rattle.sum_bytes.proofs.SumMeets.{adjoins-missing, adjoins-table}
 use Rattle.summing.proofs.adjoins.Statement.{statement}
 use Rattle.summing.proofs.adjoins.Tie as tie
 

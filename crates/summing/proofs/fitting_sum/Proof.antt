@@ -14,12 +14,12 @@ use Rattle.sheets.specs.Sum.{rowsOf}
 use Rattle.ingredients.specs.Named.{someTable}
 use Rattle.ingredients.specs.Standing.{MatrixStands}
 use Rattle.layout.specs.Bytes.{sheetIn}
-use Rattle.summing.specs.Summing.{placedMatrix, matrixAt, matricesAt, Serves}
-use Rattle.summing.specs.declared.matrices.MatrixPlace.{MatrixPlace}
+use Rattle.sum_bytes.specs.Summing.{placedMatrix, matrixAt, matricesAt, Serves}
+use Rattle.sum_bytes.specs.declared.MatrixPlace.{MatrixPlace}
 use Rattle.layout.proofs.Sheets.{ready-few}
-use Rattle.summing.proofs.Serving.{place-stands}
-use Rattle.summing.proofs.SumSheet.{sheet-stands}
-use Rattle.summing.proofs.SumMeets.{adjoins-rows, adjoined-fits, left-misfit, left-fits, meets-left, rows-first}
+use Rattle.sum_bytes.proofs.Serving.{place-stands}
+use Rattle.sum_bytes.proofs.SumSheet.{sheet-stands}
+use Rattle.sum_bytes.proofs.SumMeets.{adjoins-rows, adjoined-fits, left-misfit, left-fits, meets-left, rows-first}
 use Rattle.summing.proofs.fitting_sum.Statement.{statement}
 use Rattle.summing.proofs.fitting_sum.Tie as tie
 

@@ -1,7 +1,7 @@
 -- `summing::is_missing` meets its contract: each arm is a clause of `isMissing`.
 use mathlib.Core.Path.{sym, ap}
 use borrow.Author.Needs.{needs}
-use Rattle.summing.specs.Summing.{isMissing}
+use Rattle.sum_bytes.specs.Summing.{isMissing}
 use Rattle.summing.proofs.is_missing.Statement.{statement}
 use Rattle.summing.proofs.is_missing.Tie as tie
 

@@ -2,9 +2,9 @@
 use mathlib.Core.Path.{sym, _∙_}
 use borrow.Author.Tests.{not-true, not-false}
 use borrow.Author.Needs.{needs}
-use Rattle.summing.specs.Summing.{matricesAt, Serves}
-use Rattle.summing.proofs.Serving.{untrue}
-use Rattle.summing.proofs.SumMeets.{matrices-misfit, levels-misfit, adjoined-decides}
+use Rattle.sum_bytes.specs.Summing.{matricesAt, Serves}
+use Rattle.sum_bytes.proofs.Serving.{untrue}
+use Rattle.sum_bytes.proofs.SumMeets.{matrices-misfit, levels-misfit, adjoined-decides}
 use Rattle.summing.proofs.parts_fit.Statement.{statement}
 use Rattle.summing.proofs.parts_fit.Tie as tie
 

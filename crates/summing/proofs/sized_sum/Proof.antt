@@ -10,9 +10,9 @@ use lib.ListN.{take}
 use lib.Seq.{length-take-le}
 use Rattle.counting.specs.Table.{Table, columns as columnsOf}
 use Rattle.ingredients.specs.Named.{tableIn}
-use Rattle.summing.specs.Summing.{builtSheet, nextSheet}
+use Rattle.sum_bytes.specs.Summing.{builtSheet, nextSheet}
 use Rattle.layout.proofs.Sheets.{ready-few, ready-runs}
-use Rattle.summing.proofs.SumSheet.{sheet-stands, left-small, left-large, built-columns}
+use Rattle.sum_bytes.proofs.SumSheet.{sheet-stands, left-small, left-large, built-columns}
 use Rattle.summing.proofs.sized_sum.Statement.{statement}
 use Rattle.summing.proofs.sized_sum.Tie as tie
 

@@ -15,9 +15,9 @@ use Rattle.order.specs.Grammar.{readOrder}
 use Rattle.sheets.specs.Lists.{allOf}
 use Rattle.ingredients.specs.Named.{namedTable, someTable}
 use Rattle.layout.specs.Bytes.{sheetIn}
-use Rattle.summing.specs.Summing.{matrixAt, isMissing}
-use Rattle.summing.proofs.Sums.{part-same}
-use Rattle.summing.proofs.SumNames.{SumOperands, matrixNumbers, adjoinedNumber, numbers-many, operands-known, adjoined-missing, adjoined-found, named-known, first-named, left-unnamed, left-unadjoined, left-named}
+use Rattle.sum_bytes.specs.Summing.{matrixAt, isMissing}
+use Rattle.sum_bytes.proofs.Sums.{part-same}
+use Rattle.sum_bytes.proofs.SumNames.{SumOperands, matrixNumbers, adjoinedNumber, numbers-many, operands-known, adjoined-missing, adjoined-found, named-known, first-named, left-unnamed, left-unadjoined, left-named}
 use Rattle.summing.proofs.sum.Statement.{statement}
 use Rattle.summing.proofs.sum.Tie as tie
 

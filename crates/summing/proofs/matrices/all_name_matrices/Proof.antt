@@ -6,9 +6,9 @@ use borrow.Author.Needs.{needs}
 use lib.Dec.{ltb}
 use lib.ListN.{length}
 use Rattle.counting.specs.Matrix.{matrixOf}
-use Rattle.summing.specs.Summing.{placedMatrix, matrixAt}
-use Rattle.summing.specs.declared.matrices.MatrixPlace.{MatrixPlace}
-use Rattle.summing.proofs.Pieces.{PassSoFar, passing-none, passing-more, passing-all, passing-fails, positive-true, positive-false}
+use Rattle.sum_bytes.specs.Summing.{placedMatrix, matrixAt}
+use Rattle.sum_bytes.specs.declared.MatrixPlace.{MatrixPlace}
+use Rattle.sum_bytes.proofs.Pieces.{PassSoFar, passing-none, passing-more, passing-all, passing-fails, positive-true, positive-false}
 use Rattle.summing.proofs.matrices.all_name_matrices.Statement.{statement}
 use Rattle.summing.proofs.matrices.all_name_matrices.Tie as tie
 

@@ -5,7 +5,7 @@ use borrow.Author.Needs.{needs}
 use lib.Dec.{ltb}
 use lib.ListN.{length, getD}
 use Rattle.finite.specs.Lists.{AllBelow}
-use Rattle.summing.proofs.Pieces.{PassSoFar, passing-none, passing-more, passing-all, passing-fails, positive-true, positive-false}
+use Rattle.sum_bytes.proofs.Pieces.{PassSoFar, passing-none, passing-more, passing-all, passing-fails, positive-true, positive-false}
 use Rattle.summing.proofs.matrices.all_served.Statement.{statement}
 use Rattle.summing.proofs.matrices.all_served.Tie as tie
 

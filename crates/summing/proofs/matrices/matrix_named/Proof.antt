@@ -1,7 +1,7 @@
 -- `summing::matrices::matrix_named` meets its contract: each arm is a clause of `matrixPlace`.
 use mathlib.Core.Path.{sym, _∙_, ap}
 use borrow.Author.Needs.{needs}
-use Rattle.summing.specs.Summing.{matrixPlace}
+use Rattle.sum_bytes.specs.Summing.{matrixPlace}
 use Rattle.summing.proofs.matrices.matrix_named.Statement.{statement}
 use Rattle.summing.proofs.matrices.matrix_named.Tie as tie
 

@@ -7,9 +7,9 @@ use borrow.Author.Needs.{needs}
 use lib.ListN.{length}
 use Rattle.ingredients.specs.Standing.{MatrixStands}
 use Rattle.layout.proofs.Operands.{list-short}
-use Rattle.summing.proofs.Serving.{place-stands, SoFar, so-far-none, so-far-next, so-far-all, rows-differ, p-again, untrue}
+use Rattle.sum_bytes.proofs.Serving.{place-stands, SoFar, so-far-none, so-far-next, so-far-all, rows-differ, p-again, untrue}
 use Rattle.layout.proofs.Operands.{list-short}
-use Rattle.summing.proofs.Serving.{place-stands, SoFar, so-far-none, so-far-next, so-far-all, rows-differ, p-again}
+use Rattle.sum_bytes.proofs.Serving.{place-stands, SoFar, so-far-none, so-far-next, so-far-all, rows-differ, p-again}
 use Rattle.summing.proofs.matrices.serve.Statement.{statement}
 use Rattle.summing.proofs.matrices.serve.Tie as tie
 

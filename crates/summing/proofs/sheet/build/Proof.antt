@@ -5,9 +5,9 @@ use native.Mathlib.Omega.{arith}
 use borrow.Author.Needs.{needs}
 use lib.Seq.{length-take-le}
 use Rattle.buffers.proofs.Puts.{put-front, put-part}
-use Rattle.summing.specs.Summing.{builtSheet}
+use Rattle.sum_bytes.specs.Summing.{builtSheet}
 use Rattle.layout.proofs.Sheets.{ready-few, ready-used, ready-after, ready-levels-after, built-holds}
-use Rattle.summing.proofs.SumSheet.{built-room, sheet-stands, put-sheet, scratch-holds, table-room}
+use Rattle.sum_bytes.proofs.SumSheet.{built-room, sheet-stands, put-sheet, scratch-holds, table-room}
 use Rattle.summing.proofs.sheet.build.Statement.{statement}
 use Rattle.summing.proofs.sheet.build.Tie as tie
 

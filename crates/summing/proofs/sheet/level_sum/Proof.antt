@@ -1,6 +1,6 @@
 -- `summing::sheet::level_sum` meets its contract: a sum of two numbers below p is at most once too large.
 use borrow.Author.Needs.{needs}
-use Rattle.summing.proofs.Sums.{sum-small, sum-large}
+use Rattle.sum_bytes.proofs.Sums.{sum-small, sum-large}
 use Rattle.summing.proofs.sheet.level_sum.Statement.{statement}
 use Rattle.summing.proofs.sheet.level_sum.Tie as tie
 

@@ -6,7 +6,7 @@ use borrow.Author.Needs.{needs}
 use lib.ListN.{replicate, length-replicate}
 use Rattle.buffers.specs.Put.{Put}
 use Rattle.buffers.proofs.Puts.{put-none, put-length}
-use Rattle.summing.proofs.Sums.{put-again}
+use Rattle.sum_bytes.proofs.Sums.{put-again}
 use Rattle.summing.proofs.sheet.put_repeated.Statement.{statement}
 use Rattle.summing.proofs.sheet.put_repeated.Tie as tie
 

@@ -8,10 +8,10 @@ use Rattle.finite.specs.Lists.{from}
 use Rattle.buffers.proofs.Puts.{put-join, put-length}
 use Rattle.counting.specs.Table.{columns}
 use Rattle.ingredients.specs.Named.{tableIn}
-use Rattle.summing.specs.Summing.{summedRun, builtRun, Adjoins}
-use Rattle.summing.proofs.Pieces.{Pieces, pieces-none, below-room, below-next, below-all}
-use Rattle.summing.proofs.Sums.{rows-positive, run-below, row-below, row-stands, run-stands, run-within, part-same, built-length}
-use Rattle.summing.proofs.Sums.{rows-positive, run-below, row-below, row-stands, run-stands, run-within, part-same}
+use Rattle.sum_bytes.specs.Summing.{summedRun, builtRun, Adjoins}
+use Rattle.sum_bytes.proofs.Pieces.{Pieces, pieces-none, below-room, below-next, below-all}
+use Rattle.sum_bytes.proofs.Sums.{rows-positive, run-below, row-below, row-stands, run-stands, run-within, part-same, built-length}
+use Rattle.sum_bytes.proofs.Sums.{rows-positive, run-below, row-below, row-stands, run-stands, run-within, part-same}
 use Rattle.summing.proofs.sheet.put_runs.Statement.{statement}
 use Rattle.summing.proofs.sheet.put_runs.Tie as tie
 

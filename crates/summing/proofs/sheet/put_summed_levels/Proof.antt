@@ -5,8 +5,8 @@ use borrow.Author.Needs.{needs}
 use lib.ListN.{length, getD, replicate, length-replicate}
 use Rattle.finite.specs.Lists.{AllBelow}
 use Rattle.buffers.proofs.Puts.{put-length}
-use Rattle.summing.specs.Summing.{summedLevels}
-use Rattle.summing.proofs.Pieces.{Pieces, pieces-none, pieces-room, pieces-next, pieces-all}
+use Rattle.sum_bytes.specs.Summing.{summedLevels}
+use Rattle.sum_bytes.proofs.Pieces.{Pieces, pieces-none, pieces-room, pieces-next, pieces-all}
 use Rattle.summing.proofs.sheet.put_summed_levels.Statement.{statement}
 use Rattle.summing.proofs.sheet.put_summed_levels.Tie as tie
 

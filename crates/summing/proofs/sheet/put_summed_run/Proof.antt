@@ -6,9 +6,9 @@ use borrow.Author.Needs.{needs}
 use lib.ListN.{length, getD}
 use Rattle.finite.specs.Lists.{AllBelow, from}
 use Rattle.buffers.proofs.Puts.{put-length}
-use Rattle.summing.specs.Summing.{summedCells, summedRun}
-use Rattle.summing.proofs.Pieces.{Pieces, pieces-none, below-room, below-next, below-all}
-use Rattle.summing.proofs.Sums.{row-part, cells-length}
+use Rattle.sum_bytes.specs.Summing.{summedCells, summedRun}
+use Rattle.sum_bytes.proofs.Pieces.{Pieces, pieces-none, below-room, below-next, below-all}
+use Rattle.sum_bytes.proofs.Sums.{row-part, cells-length}
 use Rattle.summing.proofs.sheet.put_summed_run.Statement.{statement}
 use Rattle.summing.proofs.sheet.put_summed_run.Tie as tie
 

@@ -9,7 +9,7 @@ use Rattle.finite.specs.Lists.{AllBelow}
 use Rattle.finite.proofs.Lists.{getD-map}
 use Rattle.buffers.proofs.Puts.{put-length}
 use Rattle.sheets.specs.Sum.{levelSum}
-use Rattle.summing.proofs.Pieces.{Front, front-none, front-room, front-next, front-all}
+use Rattle.sum_bytes.proofs.Pieces.{Front, front-none, front-room, front-next, front-all}
 use Rattle.summing.proofs.sheet.put_sums.Statement.{statement}
 use Rattle.summing.proofs.sheet.put_sums.Tie as tie
 

@@ -5,8 +5,8 @@ use native.Mathlib.Omega.{arith}
 use borrow.Author.Needs.{needs}
 use lib.ListN.{length, getD, replicate, length-replicate}
 use Rattle.finite.specs.Lists.{AllBelow}
-use Rattle.summing.specs.Summing.{summedLevels}
-use Rattle.summing.proofs.Pieces.{Counted, counted-none, counted-next, counted-all}
+use Rattle.sum_bytes.specs.Summing.{summedLevels}
+use Rattle.sum_bytes.proofs.Pieces.{Counted, counted-none, counted-next, counted-all}
 use Rattle.summing.proofs.sheet.summed_columns.Statement.{statement}
 use Rattle.summing.proofs.sheet.summed_columns.Tie as tie
 

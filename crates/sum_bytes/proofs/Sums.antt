@@ -16,7 +16,7 @@ use Rattle.sheets.specs.Sum.{levelSum}
 use Rattle.sheets.proofs.Sum.{factor-positive}
 use Rattle.ingredients.proofs.Parts.{part-length, part-at}
 use Rattle.layout.specs.Bytes.{runOf}
-use Rattle.summing.specs.Summing.{EntriesStand, servedRow, summedCells, summedRun, RowStands, RunStands, SheetStands, builtRun}
+use Rattle.sum_bytes.specs.Summing.{EntriesStand, servedRow, summedCells, summedRun, RowStands, RunStands, SheetStands, builtRun}
 use Rattle.layout.proofs.Bytes.{run-length}
 
 -- ---- the sum of two levels

@@ -24,12 +24,12 @@ use Rattle.sheets.proofs.Lists.{map-getD, length-flatMap}
 use Rattle.sheets.proofs.StepQuestions.{size-decides}
 use Rattle.layout.specs.Bytes.{runOf, runsOf, padded, Holds, Zeros, sheetIn}
 use Rattle.layout.specs.Step.{Ready, Left}
-use Rattle.summing.specs.Summing.{EntriesStand, summedLevels, summedCells, summedRun, RowStands, SheetStands, builtRun, builtSheet}
+use Rattle.sum_bytes.specs.Summing.{EntriesStand, summedLevels, summedCells, summedRun, RowStands, SheetStands, builtRun, builtSheet}
 use Rattle.layout.specs.declared.Size.{Size}
 use Rattle.layout.proofs.Bytes.{flatMap-same, runs-length}
 use Rattle.layout.proofs.Sheets.{cells-few, built-after, ready-few, ready-used}
-use Rattle.summing.proofs.Serving.{true-is, false-is}
-use Rattle.summing.proofs.Sums.{row-below, row-stands, row-length, cells-length, built-length}
+use Rattle.sum_bytes.proofs.Serving.{true-is, false-is}
+use Rattle.sum_bytes.proofs.Sums.{row-below, row-stands, row-length, cells-length, built-length}
 
 -- ---- what the elements of a list give, place by place
 

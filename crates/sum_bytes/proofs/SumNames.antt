@@ -32,9 +32,9 @@ use Rattle.ingredients.proofs.Parts.{part-length}
 use Rattle.ingredients.proofs.Standing.{matrix-stands}
 use Rattle.ingredients.proofs.NamedLaws.{table-named, matrix-named, named-legible, named-limits}
 use Rattle.layout.specs.Step.{Readable, Stands, laterIn, Left}
-use Rattle.summing.specs.Summing.{matrixPlace, placedMatrix, matrixAt, matricesAt, isMissing}
+use Rattle.sum_bytes.specs.Summing.{matrixPlace, placedMatrix, matrixAt, matricesAt, isMissing}
 use Rattle.layout.proofs.Operands.{operands-stand, later-in}
-use Rattle.summing.proofs.Serving.{untrue}
+use Rattle.sum_bytes.proofs.Serving.{untrue}
 
 -- ---- the operands
 

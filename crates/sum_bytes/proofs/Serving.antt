@@ -29,8 +29,8 @@ use Rattle.ingredients.specs.Standing.{MatrixStands}
 use Rattle.ingredients.proofs.Standing.{matrix-stands}
 use Rattle.layout.specs.Bytes.{zeros}
 use Rattle.layout.specs.Step.{Readable}
-use Rattle.summing.specs.Summing.{matrixPlace, placedMatrix, matrixAt, matricesAt, fitTogether, matrixFrom, Serves}
-use Rattle.summing.specs.declared.matrices.MatrixPlace.{MatrixPlace}
+use Rattle.sum_bytes.specs.Summing.{matrixPlace, placedMatrix, matrixAt, matricesAt, fitTogether, matrixFrom, Serves}
+use Rattle.sum_bytes.specs.declared.MatrixPlace.{MatrixPlace}
 use Rattle.layout.proofs.Sheets.{zero-at}
 
 -- ---- a matrix that is found stands in the list

@@ -23,7 +23,7 @@ use Rattle.ingredients.specs.declared.named.NamedTable.{NamedTable}
 use Rattle.ingredients.specs.declared.named.NamedTable.the-variants.{Own, House, Missing}
 use Rattle.layout.specs.Bytes.{runOf}
 use Rattle.layout.specs.declared.Size.{Size}
-use Rattle.summing.specs.declared.matrices.MatrixPlace.{MatrixPlace}
+use Rattle.sum_bytes.specs.declared.MatrixPlace.{MatrixPlace}
 
 -- the matrix that a look-up found, by its places in the list; any other ingredient is none
 unfoldable pub matrixPlace : Located → MatrixPlace

@@ -30,12 +30,12 @@ use Rattle.ingredients.specs.declared.named.NamedTable.the-variants.{Own, House
 use Rattle.ingredients.proofs.Parts.{part-length, part-at}
 use Rattle.layout.specs.Bytes.{runOf, runsOf}
 use Rattle.layout.specs.Step.{Left}
-use Rattle.summing.specs.Summing.{matrixAt, matricesAt, fitTogether, partsFit, matrixFrom, Serves, isMissing, Adjoins, summedLevels, servedRow, summedCells, summedRun, builtRun, builtSheet}
+use Rattle.sum_bytes.specs.Summing.{matrixAt, matricesAt, fitTogether, partsFit, matrixFrom, Serves, isMissing, Adjoins, summedLevels, servedRow, summedCells, summedRun, builtRun, builtSheet}
 use Rattle.layout.proofs.Bytes.{map-below, flatMap-same, runs-sources}
 use Rattle.layout.proofs.Rows.{map-flatMap}
-use Rattle.summing.proofs.Sums.{row-below}
-use Rattle.summing.proofs.Serving.{untrue, serves-member}
-use Rattle.summing.proofs.SumSheet.{flatMap-places, built-runs, left-same}
+use Rattle.sum_bytes.proofs.Sums.{row-below}
+use Rattle.sum_bytes.proofs.Serving.{untrue, serves-member}
+use Rattle.sum_bytes.proofs.SumSheet.{flatMap-places, built-runs, left-same}
 
 -- ---- lists
 
