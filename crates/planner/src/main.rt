@@ -1,5 +1,5 @@
 // The planner: reads an order as decimal numbers from standard input and prints the run table or the refusal (document 01, "Printed runs"). Its own
-// part is to read, as far as the answer needs it, to put the whole answer into one buffer, and to write that at once.
+// part is to put the whole answer to what is read into one buffer, and to write that at once.
 ghost use mathlib.Core.Path.{_≡_};
 ghost use Prim.Native.Nat.{_≤_};
 ghost use lib.ListN.{length, take};
@@ -7,20 +7,13 @@ ghost use Rattle.buffers.specs.Put.{Put};
 ghost use Rattle.sheets.specs.Outcome.{outcome};
 ghost use Rattle.words.specs.Scanner.{scannedReading, Ended};
 ghost use Rattle.report.specs.Report.{outcomePrinted, readingPrinted, answerRoom};
-ghost use Rattle.planner.specs.Input.{afterRead, ScannedInput, Answering};
-use libc::STDIN_FILENO;
+ghost use Rattle.planner.specs.Answering.{Answering};
+use input::scan_input;
 use libc::STDOUT_FILENO;
 use printing::plan_and_put;
 use report::put_refused;
 use sheets::answer::Refusal;
-use words::Scan;
 use words::Scanned;
-
-// What comes after a read: another one, from where the scanner stands, or the answer.
-enum Next {
-    Read(Scan),
-    Answer(Scanned),
-}
 
 fn main() {
     let mut out = answer_room();
@@ -50,46 +43,6 @@ fn answer_input(out: &mut [u8]) -> usize
     let mut list = [0u16; 32768];
     let scanned = scan_input(&mut list);
     put_scanned(scanned, &list, out)
-}
-
-// The numbers of standard input, which is read in pieces, up to its end or to a word that is refused; a read that fails ends it too. A proved loop
-// has to end, and nothing says that the input does, so the reads are counted down from a number that no input reaches.
-fn scan_input(list: &mut [u16; 32768]) -> Scanned
-    requires { ⌜ length (now list) ≡ 32768 ⌝ }
-    ensures { λ r. ⌜ ScannedInput r (now (list .exit)) ⌝ }
-{
-    let mut piece = [0u8; 4096];
-    let mut state = Scan::start();
-    let mut reads_left = u64::MAX;
-    while reads_left > 0 {
-        let got = libc::read(STDIN_FILENO, &mut piece);
-        let n = io::count(got, &piece);
-        match after_read(state, &piece[..n], list) {
-            Next::Read(next) => {
-                state = next;
-            }
-            Next::Answer(scanned) => {
-                return scanned;
-            }
-        }
-        reads_left -= 1;
-    }
-    state.finish(list)
-}
-
-// What comes after a read that gave these bytes: none end the text, and a word that is refused ends the reading.
-fn after_read(state: Scan, bytes: &[u8], list: &mut [u16; 32768]) -> Next
-    ensures { λ r. ⌜ (r, now (list .exit)) ≡ afterRead (state, now (list .entry)) (now (bytes .entry)) ⌝ }
-{
-    if bytes.len() == 0 {
-        return Next::Answer(state.finish(list));
-    }
-    let reached = state.piece(bytes, list);
-    match reached {
-        Scan::Between { count } => Next::Read(Scan::Between { count }),
-        Scan::Inside { count, value } => Next::Read(Scan::Inside { count, value }),
-        Scan::Failed { place } => Next::Answer(Scanned::Refused { place }),
-    }
 }
 
 // Puts what is printed for a text that comes to this: the answer to its numbers, or the refusal of a word.

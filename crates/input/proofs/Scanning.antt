@@ -2,11 +2,9 @@
 -- Assumes nothing.
 use mathlib.Core.Path.{_≡_, refl, sym, _∙_, ap, ap₂}
 use mathlib.Core.List.{List, [], _∷_, _++_, append-nil, append-assoc, foldl, foldl-append, flatten}
-use Prim.Native.Nat.{ℕ, _≤_}
+use Prim.Native.Nat.{ℕ}
 use native.Mathlib.Omega.{arith}
-use lib.ListN.{length, take}
-use Rattle.buffers.specs.Put.{Put}
-use Rattle.buffers.proofs.Puts.{put-length, put-front}
+use lib.ListN.{length}
 use Rattle.words.specs.Words.{refused, reading}
 use Rattle.words.specs.Scanner.{Progress, advanced, finished, scannedReading, Unfinished}
 use Rattle.words.specs.declared.Scan.{Scan}
@@ -15,10 +13,9 @@ use Rattle.words.specs.declared.Scanned.{Scanned}
 use Rattle.words.proofs.Following.{refused-stays}
 use Rattle.words.proofs.Scanning.{any-cut}
 use Rattle.words.proofs.Bounds.{sound-start, sound-piece, sound-finish, refused-failed}
-use Rattle.report.specs.Report.{readingPrinted, output}
-use Rattle.planner.specs.declared.Next.{Next}
-use Rattle.planner.specs.declared.Next.the-variants.{Read, Answer}
-use Rattle.planner.specs.Input.{onward, afterRead, text, ScannedInput, Answering}
+use Rattle.input.specs.declared.Next.{Next}
+use Rattle.input.specs.declared.Next.the-variants.{Read, Answer}
+use Rattle.input.specs.Input.{onward, afterRead, ScannedInput}
 
 -- Some pieces of a text were scanned from its start, and no word of it is refused so far.
 pub record ScannedPart (before : List ℕ) (state : Scan) (list : List ℕ) : Type 0 where
@@ -134,17 +131,3 @@ module _ {before : List ℕ} {state : Scan} {list : List ℕ} (so-far : ScannedP
     pub input-finished : {answer : Scanned} {list′ : List ℕ} → (answer, list′) ≡ finished (state, list) → ScannedInput answer list′
     unfolding advanced
     input-finished e = finished-input [] e
-
--- What was put for a text that was scanned is the answer to it.
-pub input-put : {answer : Scanned} {list before after : List ℕ} {end : ℕ} → ScannedInput answer list
-    → Put before 0 (readingPrinted (scannedReading (answer, list))) after end → (end ≤ length after) × Answering (take end after)
-unfolding output
-input-put scanned put =
-    let printed = put-front put ∙ ap readingPrinted (scanned .reads) in (
-      omega (arith, put .fits, put-length put),
-      record {
-        input = scanned .input;
-        printed = printed;
-        suffices = λ place e rest. printed ∙ ap readingPrinted (e ∙ sym (refused-stays (text (scanned .input)) rest e));
-      },
-    )

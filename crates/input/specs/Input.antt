@@ -1,4 +1,4 @@
--- What is read from standard input and what is answered to it. Nothing can say which bytes a read gives, so this says that there is such a text.
+-- What is read from standard input. Nothing can say which bytes a read gives, so this says that there is such a text.
 use mathlib.Core.Path.{_≡_}
 use mathlib.Core.List.{List, [], _∷_, _++_, flatten}
 use Prim.Native.Nat.{ℕ}
@@ -8,9 +8,8 @@ use Rattle.words.specs.declared.Scan.{Scan}
 use Rattle.words.specs.declared.Scan.the-variants.{Between, Inside, Failed}
 use Rattle.words.specs.declared.Scanned.{Scanned}
 use Rattle.words.specs.declared.Scanned.the-variants.{Refused}
-use Rattle.report.specs.Report.{output}
-use Rattle.planner.specs.declared.Next.{Next}
-use Rattle.planner.specs.declared.Next.the-variants.{Read, Answer}
+use Rattle.input.specs.declared.Next.{Next}
+use Rattle.input.specs.declared.Next.the-variants.{Read, Answer}
 
 -- A state that the scanner has reached asks for another read, or, where a word is refused, for none.
 abbrev pub onward : Scan → Next
@@ -38,9 +37,3 @@ pub record ScannedInput (answer : Scanned) (list : List ℕ) : Type 0 where
   pub input : Input
   pub reads : scannedReading (answer, list) ≡ reading (text input)
   pub suffices : (place : ℕ) → answer ≡ Refused place → (rest : List ℕ) → reading (text input ++ rest) ≡ refused place
-
--- These bytes are what document 01 has printed for the text that was read; where it is refused, so it is whatever follows it.
-pub record Answering (bytes : List ℕ) : Type 0 where
-  pub input : Input
-  pub printed : bytes ≡ output (text input)
-  pub suffices : (place : ℕ) → reading (text input) ≡ refused place → (rest : List ℕ) → bytes ≡ output (text input ++ rest)

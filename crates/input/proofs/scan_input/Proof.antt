@@ -1,12 +1,12 @@
--- `planner::scan_input` meets its contract. The invariant: the buffer keeps its 4,096 bytes, and some pieces have been scanned from the start, with no
+-- `input::scan_input` meets its contract. The invariant: the buffer keeps its 4,096 bytes, and some pieces have been scanned from the start, with no
 -- word refused. The measure is the number of reads that are left.
 use mathlib.Core.Path.{_≡_, sym, _∙_, ap}
 use lib.ListN.{length}
 use borrow.Author.Needs.{needs}
-use Rattle.planner.specs.declared.Next.{Next}
-use Rattle.planner.proofs.Scanning.{ScannedPart, underway-start, underway-read, input-answered, input-finished}
-use Rattle.planner.proofs.scan_input.Statement.{statement}
-use Rattle.planner.proofs.scan_input.Tie as tie
+use Rattle.input.specs.declared.Next.{Next}
+use Rattle.input.proofs.Scanning.{ScannedPart, underway-start, underway-read, input-answered, input-finished}
+use Rattle.input.proofs.scan_input.Statement.{statement}
+use Rattle.input.proofs.scan_input.Tie as tie
 
 abbrev Inv-loop : tie.InvT-loop
 Inv-loop list₀ piece₀ state₀ reads-left₀ list piece state reads-left = (length piece ≡ 4096) × ScannedPart list₀ state list

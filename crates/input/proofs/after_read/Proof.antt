@@ -1,10 +1,10 @@
--- `planner::after_read` meets its contract: the text's end, or the state after the bytes.
+-- `input::after_read` meets its contract: the text's end, or the state after the bytes.
 use mathlib.Core.Path.{ap}
-use Rattle.planner.specs.Input.{onward}
-use Rattle.planner.proofs.Scanning.{read-none, read-some}
+use Rattle.input.specs.Input.{onward}
+use Rattle.input.proofs.Scanning.{read-none, read-some}
 use borrow.Author.Needs.{needs}
-use Rattle.planner.proofs.after_read.Statement.{statement}
-use Rattle.planner.proofs.after_read.Tie as tie
+use Rattle.input.proofs.after_read.Statement.{statement}
+use Rattle.input.proofs.after_read.Tie as tie
 
 finish-requires : tie.Need-finish-requires
 finish-requires c κs = search needs
