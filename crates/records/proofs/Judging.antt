@@ -28,11 +28,11 @@ use Rattle.layout.specs.Bytes.{runsOf, zeros, padded}
 use Rattle.layout.proofs.Bytes.{runs-length}
 use Rattle.promise.specs.Promise.{planned, answerTo, tableBytes, levelBytes, Promise}
 use Rattle.report.specs.Report.{refusalLine, Printable, outcomePrinted}
-use Rattle.records.specs.Bytes.{firstPlace, sameBytes, allZero}
+use Rattle.byte_texts.specs.Bytes.{firstPlace, sameBytes, allZero}
 use Rattle.records.specs.Record.{lengthsIn, lengthsGiven, lengthsRead, cameTo, answerNumber, judgedAs, judged, restZero}
 use Rattle.records.specs.declared.judge.Judged.{Judged}
 use Rattle.records.specs.declared.judge.Lengths.{Lengths}
-use Rattle.records.proofs.Comparing.{first-most, same-iff, zeros-zero}
+use Rattle.byte_texts.proofs.Comparing.{first-most, same-iff, zeros-zero}
 
 abbrev judgedBy : ℕ → Bool → Judged
 judgedBy number same = record { number = number; same = same }

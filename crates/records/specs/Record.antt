@@ -11,7 +11,7 @@ use Rattle.sheets.specs.declared.answer.Answer.{Answer}
 use Rattle.sheets.specs.declared.answer.Answer.the-variants.{Filled, Refused}
 use Rattle.promise.specs.Promise.{planned, answerTo}
 use Rattle.report.specs.Report.{outcomePrinted}
-use Rattle.records.specs.Bytes.{firstPlace, sameBytes, allZero}
+use Rattle.byte_texts.specs.Bytes.{firstPlace, sameBytes, allZero}
 use Rattle.records.specs.declared.judge.Judged.{Judged}
 use Rattle.records.specs.declared.judge.Lengths.{Lengths}
 

@@ -15,7 +15,6 @@
 // An order goes up to "=" and the end of that line; then comes what the program `planner` prints, up to ";". A line with "@" gives the lengths of run
 // table, level list and scratch from there on, each as two numbers: 65,536 times the first, plus the second. A record without "=" differs, and so does
 // one of 262,144 bytes or more, for which there is no room.
-mod bytes; // bytes.rt: searches and comparisons of bytes
 mod judge; // judge.rt: one order and its stored answer
 mod summary; // summary.rt: what is counted and printed
 

@@ -1,7 +1,7 @@
 -- `compare_item` meets its contract: an empty item, a line of lengths, a record, or a remark.
 use mathlib.Core.Path.{refl, _∙_, ap}
+use Rattle.byte_texts.proofs.Comparing.{rest-whole}
 use Rattle.records.specs.Record.{lengthsGiven}
-use Rattle.records.proofs.Comparing.{rest-whole}
 use Rattle.records.proofs.Texts.{item-empty, item-lengths, item-record, item-remark}
 use borrow.Author.Needs.{needs}
 use Rattle.records.proofs.compare_item.Statement.{statement}

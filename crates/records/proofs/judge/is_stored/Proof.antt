@@ -1,7 +1,7 @@
 -- `is_stored` meets its contract: two bytes, and then the rest.
 use mathlib.Core.Path.{_∙_, ap}
-use Rattle.records.specs.Bytes.{sameBytes}
-use Rattle.records.proofs.Comparing.{rest-whole}
+use Rattle.byte_texts.specs.Bytes.{sameBytes}
+use Rattle.byte_texts.proofs.Comparing.{rest-whole}
 use Rattle.records.proofs.Judging.{stored-short, stored-other, stored-on, stored-rest}
 use borrow.Author.Needs.{needs}
 use Rattle.records.proofs.judge.is_stored.Statement.{statement}

@@ -5,7 +5,7 @@ use native.Mathlib.Omega.{arith}
 use lib.ListN.{length}
 use lib.Seq.{length-take-le}
 use Rattle.words.proofs.Bounds.{ended-room}
-use Rattle.records.proofs.Comparing.{rest-whole, first-most}
+use Rattle.byte_texts.proofs.Comparing.{rest-whole, first-most}
 use Rattle.records.proofs.Judging.{reads-numbers, reads-refused, judged-whole}
 use borrow.Author.Needs.{needs}
 use Rattle.records.proofs.judge.judge.Statement.{statement}

@@ -1,10 +1,10 @@
 // Searches and comparisons of bytes.
 ghost use mathlib.Core.Path.{_≡_};
 ghost use lib.ListN.{drop};
-ghost use Rattle.records.specs.Bytes.{firstPlace, sameBytes, allZero};
+ghost use Rattle.byte_texts.specs.Bytes.{firstPlace, sameBytes, allZero};
 
 // The first place that has a byte, or the length where none has it.
-pub(crate) fn find(bytes: &[u8], byte: u8) -> usize
+pub fn find(bytes: &[u8], byte: u8) -> usize
     ensures { λ r. ⌜ r ≡ firstPlace byte (now (bytes .entry)) ⌝ }
 {
     let mut at = 0;
@@ -18,7 +18,7 @@ pub(crate) fn find(bytes: &[u8], byte: u8) -> usize
 }
 
 // Whether two texts are the same.
-pub(crate) fn same(text: &[u8], other: &[u8]) -> bool
+pub fn same(text: &[u8], other: &[u8]) -> bool
     ensures { λ r. ⌜ r ≡ sameBytes (now (text .entry)) (now (other .entry)) ⌝ }
 {
     if text.len() != other.len() {
@@ -35,7 +35,7 @@ pub(crate) fn same(text: &[u8], other: &[u8]) -> bool
 }
 
 // Whether all bytes from a place on are zero.
-pub(crate) fn zero_from(bytes: &[u8], start: usize) -> bool
+pub fn zero_from(bytes: &[u8], start: usize) -> bool
     ensures { λ r. ⌜ r ≡ allZero (drop start (now (bytes .entry))) ⌝ }
 {
     let mut at = start;

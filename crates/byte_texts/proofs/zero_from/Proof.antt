@@ -3,10 +3,10 @@ use mathlib.Core.Path.{_≡_, refl, sym, _∙_}
 use Prim.Native.Nat.{_-_}
 use lib.ListN.{length, drop}
 use borrow.Author.Needs.{needs}
-use Rattle.records.specs.Bytes.{allZero}
-use Rattle.records.proofs.Comparing.{zero-later, no-zero-here, zero-end}
-use Rattle.records.proofs.bytes.zero_from.Statement.{statement}
-use Rattle.records.proofs.bytes.zero_from.Tie as tie
+use Rattle.byte_texts.specs.Bytes.{allZero}
+use Rattle.byte_texts.proofs.Comparing.{zero-later, no-zero-here, zero-end}
+use Rattle.byte_texts.proofs.zero_from.Statement.{statement}
+use Rattle.byte_texts.proofs.zero_from.Tie as tie
 
 abbrev Inv-loop : tie.InvT-loop
 Inv-loop bytes start at₀ at = allZero (drop start bytes) ≡ allZero (drop at bytes)

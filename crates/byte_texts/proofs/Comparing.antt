@@ -11,7 +11,7 @@ use borrow.Author.Tests.{eq-eqb, ne-eqb, eqb-true}
 use lib.Dec.{eqb}
 use lib.ListN.{length, getD, take, drop, replicate, length-drop, drop-of-length-le}
 use lib.Seq.{drop-cons, take-all}
-use Rattle.records.specs.Bytes.{firstPlace, sameBytes, allZero}
+use Rattle.byte_texts.specs.Bytes.{firstPlace, sameBytes, allZero}
 
 -- The rest of a text from a place on, as a part of it that is lent.
 pub rest-whole : (bytes : List ℕ) (at : ℕ) → take (length bytes - at) (drop at bytes) ≡ drop at bytes

@@ -3,10 +3,10 @@ use mathlib.Core.Path.{_≡_, refl, sym, _∙_}
 use Prim.Native.Nat.{_-_}
 use lib.ListN.{length, drop}
 use borrow.Author.Needs.{needs}
-use Rattle.records.specs.Bytes.{sameBytes}
-use Rattle.records.proofs.Comparing.{same-later, differs-here, same-end, other-length}
-use Rattle.records.proofs.bytes.same.Statement.{statement}
-use Rattle.records.proofs.bytes.same.Tie as tie
+use Rattle.byte_texts.specs.Bytes.{sameBytes}
+use Rattle.byte_texts.proofs.Comparing.{same-later, differs-here, same-end, other-length}
+use Rattle.byte_texts.proofs.same.Statement.{statement}
+use Rattle.byte_texts.proofs.same.Tie as tie
 
 abbrev Inv-loop : tie.InvT-loop
 Inv-loop text other at₀ at = (length text ≡ length other) × (sameBytes text other ≡ sameBytes (drop at text) (drop at other))

@@ -4,10 +4,10 @@ use Prim.Native.Nat.{_+_, _-_, _≤_}
 use native.Mathlib.Omega.{arith}
 use lib.ListN.{length, drop}
 use borrow.Author.Needs.{needs}
-use Rattle.records.specs.Bytes.{firstPlace}
-use Rattle.records.proofs.Comparing.{found-here, found-later, found-nowhere}
-use Rattle.records.proofs.bytes.find.Statement.{statement}
-use Rattle.records.proofs.bytes.find.Tie as tie
+use Rattle.byte_texts.specs.Bytes.{firstPlace}
+use Rattle.byte_texts.proofs.Comparing.{found-here, found-later, found-nowhere}
+use Rattle.byte_texts.proofs.find.Statement.{statement}
+use Rattle.byte_texts.proofs.find.Tie as tie
 
 abbrev Inv-loop : tie.InvT-loop
 Inv-loop bytes byte at₀ at = (at ≤ length bytes) × (firstPlace byte bytes ≡ at + firstPlace byte (drop at bytes))
