@@ -6,39 +6,20 @@ use mathlib.Core.List.{List, [], _∷_, _++_, foldl-append, flatten, append-nil,
 use Prim.Native.Nat.{ℕ, _+_, _≤_, _<_}
 use native.Mathlib.Numerals.{add-one}
 use native.Mathlib.Omega.{arith}
-use borrow.Author.Tests.{ltb-true, ltb-false, lt-ltb, le-ltb, eq-eqb, ne-eqb}
+use borrow.Author.Tests.{eq-eqb, ne-eqb}
 use lib.Dec.{eqb, ltb}
 use lib.ListN.{length, getD, take, drop, set, length-append, drop-of-length-le}
-use lib.Seq.{length-take-le, take-all, take-at, take-suc-set, drop-cons, set-out}
+use lib.Seq.{length-take-le, take-all, take-at, take-suc-set, drop-cons}
 use Rattle.lines.proofs.Cases.{by-cases}
+use Rattle.summary.specs.Counts.{recordCounted, answerCounted}
+use Rattle.summary.specs.declared.Tally.{Tally}
+use Rattle.summary.proofs.Counts.{few-counted}
 use Rattle.records.specs.Record.{lengthsGiven, judged}
-use Rattle.records.specs.Text.{oneMore, Comparison, isLine, endsItem, recordCounted, answerCounted, afterRecord, afterLengths, afterNothing, afterItemOf, afterItem, afterByte, afterText, start, compared, Compared}
+use Rattle.records.specs.Text.{Comparison, isLine, endsItem, afterRecord, afterLengths, afterNothing, afterItemOf, afterItem, afterByte, afterText, start, compared, Compared}
 use Rattle.records.specs.State.{progress, progressOf}
-use Rattle.records.specs.declared.Tally.{Tally}
 use Rattle.records.specs.declared.State.{State}
 use Rattle.records.specs.declared.judge.Judged.{Judged}
 use Rattle.records.specs.declared.judge.Lengths.{Lengths}
-
-abbrev tallied : ℕ → ℕ → Tally
-tallied records differing = record { records = records; differing = differing }
-
--- Counts.
-pub more-below : (n : ℕ) → n < 18446744073709551615 → n + 1 ≡ oneMore n
-unfolding oneMore
-more-below n h = rw (lt-ltb n 18446744073709551615 h)
-
-pub more-last : (n : ℕ) → 18446744073709551615 ≤ n → n ≡ oneMore n
-unfolding oneMore
-more-last n h = rw (le-ltb n 18446744073709551615 h)
-
-module _ (answers : List ℕ) (number : ℕ) where
-  pub counted-there : {next : ℕ} → next ≡ oneMore (getD answers number 0) → set answers number next ≡ answerCounted number answers
-  unfolding answerCounted
-  counted-there e = ap (set answers number) e
-
-  pub counted-nowhere : length answers ≤ number → answers ≡ answerCounted number answers
-  unfolding answerCounted
-  counted-nowhere h = sym (set-out answers number _ h)
 
 -- The byte that ends an item.
 module _ (byte : ℕ) where
@@ -52,16 +33,6 @@ module _ (byte : ℕ) where
   unfolding endsItem
   ends-by [] ne e = absurd (ne refl)
   ends-by (b ∷ bs) ne e = rw (← e)
-
--- What is counted of a record that holds, and of one that differs.
-module _ (tally : Tally) {records : ℕ} (one-more : records ≡ oneMore (tally .records)) where
-  pub tally-holds : tallied records (tally .differing) ≡ recordCounted true tally
-  unfolding recordCounted
-  tally-holds = ap (λ (n : ℕ). tallied n (tally .differing)) one-more
-
-  pub tally-differs : {differing : ℕ} → differing ≡ oneMore (tally .differing) → tallied records differing ≡ recordCounted false tally
-  unfolding recordCounted
-  tally-differs e = rw (one-more, e)
 
 -- An item at its end, as the function that compares it leaves the state and the counts.
 module _ (room : ℕ) (tally : Tally) (lengths : Lengths) (item answers : List ℕ) where
@@ -151,26 +122,6 @@ module _ (room : ℕ) (p : Comparison) (bytes : List ℕ) (i : ℕ) where
 -- No more records differ than there are.
 abbrev Few : Comparison → Type 0
 Few p = p .tally .differing ≤ p .tally .records
-
-more-kept : (n m : ℕ) → n ≤ m → n ≤ oneMore m
-unfolding oneMore
-more-kept n m h = by-cases (ltb m 18446744073709551615) (λ t. rw t (omega arith)) (λ t. rw t h)
-
-more-both : (n m : ℕ) → n ≤ m → oneMore n ≤ oneMore m
-unfolding oneMore
-more-both n m h =
-    by-cases (ltb n 18446744073709551615)
-    (λ t.
-    rw t
-    (by-cases (ltb m 18446744073709551615) (λ u. rw u (omega arith))
-    (λ u. rw u (omega (arith, ltb-true n 18446744073709551615 t, ltb-false m 18446744073709551615 u)))))
-    (λ t. rw t (more-kept n m h))
-
-few-counted : (holds : Bool) (tally : Tally) → tally .differing ≤ tally .records
-    → recordCounted holds tally .differing ≤ recordCounted holds tally .records
-unfolding recordCounted
-few-counted true tally h = more-kept (tally .differing) (tally .records) h
-few-counted false tally h = more-both (tally .differing) (tally .records) h
 
 few-item : (room : ℕ) (item : List ℕ) (p : Comparison) → Few p → Few (afterItemOf room item p)
 unfolding afterRecord

@@ -2,8 +2,8 @@
 use mathlib.Core.List.{List}
 use Prim.Native.Nat.{ℕ}
 use lib.ListN.{take}
+use Rattle.summary.specs.declared.Tally.{Tally}
 use Rattle.records.specs.Text.{Comparison}
-use Rattle.records.specs.declared.Tally.{Tally}
 use Rattle.records.specs.declared.State.{State}
 use Rattle.records.specs.declared.judge.Lengths.{Lengths}
 

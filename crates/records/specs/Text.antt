@@ -2,16 +2,13 @@
 use mathlib.Core.Path.{_≡_}
 use mathlib.Core.Bool.{Bool, cond, _&&_, _||_}
 use mathlib.Core.List.{List, [], _∷_, _++_, foldl, flatten}
-use Prim.Native.Nat.{ℕ, _+_}
+use Prim.Native.Nat.{ℕ}
 use lib.Dec.{eqb, ltb}
-use lib.ListN.{length, getD, set, take, replicate}
+use lib.ListN.{length, take, replicate}
+use Rattle.summary.specs.Counts.{recordCounted, answerCounted}
+use Rattle.summary.specs.declared.Tally.{Tally}
 use Rattle.records.specs.Record.{lengthsGiven, judged}
-use Rattle.records.specs.declared.Tally.{Tally}
 use Rattle.records.specs.declared.judge.Lengths.{Lengths}
-
--- One more; a count stays at the largest number that it can hold, which no text reaches.
-unfoldable pub oneMore : ℕ → ℕ
-oneMore n = cond (ltb n 18446744073709551615) (n + 1) n
 
 -- How far a text has been compared.
 pub record Comparison : Type 0 where
@@ -32,15 +29,6 @@ isLine first = eqb first 35 || eqb first 64
 unfoldable pub endsItem : List ℕ → ℕ → Bool
 endsItem [] byte = eqb byte 10
 endsItem (first ∷ rest) byte = cond (isLine first) (eqb byte 10) (eqb byte 59)
-
--- A record is counted, and counted as differing where it does not hold, and only there.
-unfoldable pub recordCounted : Bool → Tally → Tally
-recordCounted holds tally =
-    record { records = oneMore (tally .records); differing = cond holds (tally .differing) (oneMore (tally .differing)) }
-
--- It is counted by its answer too.
-unfoldable pub answerCounted : ℕ → List ℕ → List ℕ
-answerCounted number answers = set answers number (oneMore (getD answers number 0))
 
 -- After a record. Where it fills the room, bytes of it may be missing, and it differs.
 unfoldable pub afterRecord : ℕ → Comparison → Comparison

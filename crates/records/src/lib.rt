@@ -16,7 +16,6 @@
 // table, level list and scratch from there on, each as two numbers: 65,536 times the first, plus the second. A record without "=" differs, and so does
 // one of 262,144 bytes or more, for which there is no room.
 mod judge; // judge.rt: one order and its stored answer
-mod summary; // summary.rt: what is counted and printed
 
 ghost use mathlib.Core.Path.{_≡_};
 ghost use mathlib.Core.List.{[]};
@@ -28,16 +27,11 @@ use judge::Lengths;
 use judge::judge;
 use judge::lengths_of;
 use libc::STDIN_FILENO;
+use summary::Tally;
 use summary::count;
-use summary::one_more;
 use summary::print_counts;
 use summary::print_difference;
-
-// How many orders were compared, and how many of them came to another answer than the stored one, or left other bytes.
-pub struct Tally {
-    pub records: usize,
-    pub differing: usize,
-}
+use summary::record_counted;
 
 // How far a text has been compared: what is counted so far, the lengths of the buffers for the next record, and how many bytes of the next item are
 // held.
@@ -178,16 +172,9 @@ fn compare_record(
     let found = judge(bytes, lengths);
     count(counts, found.number);
     let holds = bytes.len() < room && found.same;
-    let records = one_more(before.records);
-    if holds {
-        return Tally {
-            records,
-            differing: before.differing,
-        };
+    let tally = record_counted(holds, before);
+    if !holds {
+        print_difference(tally.records);
     }
-    print_difference(records);
-    Tally {
-        records,
-        differing: one_more(before.differing),
-    }
+    tally
 }

@@ -1,11 +1,11 @@
 -- `compare_record` meets its contract: the record is judged, and counted by what is found.
-use mathlib.Core.Path.{_≡_, sym, _∙_}
+use mathlib.Core.Path.{_≡_, _∙_}
 use mathlib.Core.Bool.{_&&_}
 use mathlib.Core.Logic.{⊎-elim}
 use lib.Dec.{ltb}
 use lib.ListN.{length}
 use borrow.Author.Tests.{lt-ltb, le-ltb}
-use Rattle.records.proofs.Texts.{record-counted, tally-holds, tally-differs}
+use Rattle.records.proofs.Texts.{record-counted}
 use borrow.Author.Needs.{needs}
 use Rattle.records.proofs.compare_record.Statement.{statement}
 use Rattle.records.proofs.compare_record.Tie as tie
@@ -24,34 +24,31 @@ judge-requires c κs = search needs
 count-requires : tie.Need-count-requires
 count-requires c κs = search needs
 
-one-more-requires : tie.Need-one-more-requires
-one-more-requires c κs = search needs
+record-counted-requires : tie.Need-record-counted-requires
+record-counted-requires c κs = search needs
+
+print-difference-requires : tie.Need-print-difference-requires
+print-difference-requires c κs = search needs
 
 same-length : tie.Need-same-length
 same-length c = search needs
 
 returns : tie.Need-returns
 returns c =
-    let joined = c .before .before in
+    let joined = c .before .before .before in
     let judged = joined .before .before .before .before .before in
-    record-counted _ _ _ _ _ (judged .judge .ensures) (joined .before .before .before .count .ensures) (sym (c .if2 .taken) ∙ holds-is joined)
-    (tally-holds _ (c .before .one-more .ensures))
-
-print-difference-requires : tie.Need-print-difference-requires
-print-difference-requires c κs = search needs
-
-one-more-requires-2 : tie.Need-one-more-requires-2
-one-more-requires-2 c κs = search needs
+    record-counted _ _ _ _ _ (judged .judge .ensures) (joined .before .before .before .count .ensures) (holds-is joined)
+    (c .before .before .record-counted .ensures)
 
 same-length-2 : tie.Need-same-length-2
 same-length-2 c = search needs
 
 returns-2 : tie.Need-returns-2
 returns-2 c =
-    let joined = c .before .before .before .before in
+    let joined = c .before .before in
     let judged = joined .before .before .before .before .before in
-    record-counted _ _ _ _ _ (judged .judge .ensures) (joined .before .before .before .count .ensures) (sym (c .before .before .if2 .left) ∙ holds-is joined)
-    (tally-differs _ (c .before .before .before .one-more .ensures) (c .one-more2 .ensures))
+    record-counted _ _ _ _ _ (judged .judge .ensures) (joined .before .before .before .count .ensures) (holds-is joined)
+    (c .before .record-counted .ensures)
 
 pub compare-record-spec : {M : Type 1} → statement M
 compare-record-spec =
@@ -59,10 +56,9 @@ compare-record-spec =
     (tie.spec
     judge-requires
     count-requires
-    one-more-requires
+    record-counted-requires
+    print-difference-requires
     same-length
     returns
-    print-difference-requires
-    one-more-requires-2
     same-length-2
     returns-2)

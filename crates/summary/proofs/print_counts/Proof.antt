@@ -2,8 +2,8 @@
 use Prim.Native.Nat.{_-_, _≤_}
 use lib.ListN.{length}
 use borrow.Author.Needs.{needs}
-use Rattle.records.proofs.summary.print_counts.Statement.{statement}
-use Rattle.records.proofs.summary.print_counts.Tie as tie
+use Rattle.summary.proofs.print_counts.Statement.{statement}
+use Rattle.summary.proofs.print_counts.Tie as tie
 
 abbrev Inv-loop : tie.InvT-loop
 Inv-loop counts tally number₀ t5 number = 0 ≤ number

@@ -1,8 +1,8 @@
 -- `count` meets its contract: one more at the place of the number, if there is one.
-use Rattle.records.proofs.Texts.{counted-there, counted-nowhere}
+use Rattle.summary.proofs.Counts.{counted-there, counted-nowhere}
 use borrow.Author.Needs.{needs}
-use Rattle.records.proofs.summary.count.Statement.{statement}
-use Rattle.records.proofs.summary.count.Tie as tie
+use Rattle.summary.proofs.count.Statement.{statement}
+use Rattle.summary.proofs.count.Tie as tie
 
 mul-one-more : tie.Need-mul-one-more
 mul-one-more c = search needs

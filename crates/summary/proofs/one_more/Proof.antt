@@ -1,8 +1,8 @@
 -- `one_more` meets its contract.
-use Rattle.records.proofs.Texts.{more-below, more-last}
+use Rattle.summary.proofs.Counts.{more-below, more-last}
 use borrow.Author.Needs.{needs}
-use Rattle.records.proofs.summary.one_more.Statement.{statement}
-use Rattle.records.proofs.summary.one_more.Tie as tie
+use Rattle.summary.proofs.one_more.Statement.{statement}
+use Rattle.summary.proofs.one_more.Tie as tie
 
 add-result : tie.Need-add-result
 add-result c = search needs
