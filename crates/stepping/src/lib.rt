@@ -4,16 +4,16 @@ ghost use Prim.Native.Nat.{_≤_};
 ghost use Rattle.layout.specs.Bytes.{Zeros};
 ghost use Rattle.layout.specs.Step.{Stands, Left};
 ghost use Rattle.stepping.specs.Stepping.{Prepared, kindAllowed, inHand, numberedIn, proceedIn};
+use generating::field;
 use layout::Size;
 use merging::merge;
-use opening::field::field;
-use opening::take::take;
 use places::Placed;
 use places::step_at;
 use sheets::answer::Answer;
 use sheets::answer::Refusal;
 use splitting::split;
 use summing::sum;
+use taking::take;
 
 // Question 5, of the kind alone: is the first step of kind 1 or 2, every later one 3 to 5?
 fn allowed(number: usize, kind: usize) -> bool

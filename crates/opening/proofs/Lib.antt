@@ -1,9 +1,0 @@
-pub mod FieldLeads
-pub mod FieldNamed
-pub mod FieldPlaces
-pub mod FieldRuns
-pub mod FieldSheet
-pub mod FieldSums
-pub mod LevelSums
-pub mod Taken
-pub mod FieldWidths
