@@ -9,12 +9,11 @@ use native.Mathlib.Numerals.{add-one}
 use native.Mathlib.Decide.{decLt}
 use native.Mathlib.Omega.{arith}
 use lib.Arith.{digits-lt}
-use lib.ListN.{length, getD, length-map, take, drop, replicate, replicate-append-replicate, length-append, length-replicate, length-drop, take-append-drop, List·getD-append}
-use lib.Seq.{getD-append-add, drop-at, drop-drop}
+use lib.ListN.{length, getD, length-map, drop, replicate, length-append, length-replicate, List·getD-append}
+use lib.Seq.{getD-append-add}
 use Rattle.finite.specs.Lists.{from}
 use Rattle.finite.proofs.Lists.{length-from}
 use Rattle.buffers.specs.Put.{Put}
-use Rattle.buffers.proofs.Puts.{put-front}
 use Rattle.counting.specs.Table.{Table, columns}
 use Rattle.sheets.specs.Sheet.{fromSources}
 use Rattle.sheets.proofs.Lists.{map-getD, getD-map}
@@ -27,14 +26,6 @@ drop-replicate zero n a = rw sub-zero
 drop-replicate (suc k) zero a = rw zero-sub
 drop-replicate (suc k) (suc n) a = rw suc-sub-suc (drop-replicate k n a)
 
--- a front set to zero, and zeros after it
-pub zeros-joined : (n : ℕ) (xs front : List ℕ) → Zeros (drop n xs) → front ≡ zeros (length (take n xs)) → front ++ drop n xs ≡ zeros (length xs)
-unfolding Zeros
-zeros-joined n xs front back cleared =
-    ap₂ _++_ cleared back
-    ∙ replicate-append-replicate (length (take n xs)) (length (drop n xs)) 0
-    ∙ ap zeros (sym (length-append (take n xs) (drop n xs)) ∙ ap length (take-append-drop n xs))
-
 -- bytes put at the front of zeros
 pub put-padded : {before bytes after : List ℕ} {end : ℕ} (n : ℕ) → before ≡ zeros n → Put before 0 bytes after end → after ≡ padded n bytes
 unfolding padded
@@ -46,39 +37,6 @@ put-padded {before} {bytes} {after} {end} n clear put =
 pub zeros-all : {xs : List ℕ} (n : ℕ) → xs ≡ zeros n → Zeros xs
 unfolding Zeros
 zeros-all n clear = clear ∙ ap zeros (sym (ap length clear ∙ length-replicate n 0))
-
--- what is zeros from a place on is zeros from any later place on
-zeros-later : (n m : ℕ) (xs : List ℕ) → n ≤ m → Zeros (drop n xs) → Zeros (drop m xs)
-unfolding Zeros
-zeros-later n m xs h back =
-    let there : m ≡ n + (m - n) = omega arith in
-    zeros-all (length (drop n xs) - (m - n))
-    (ap (λ (k : ℕ). drop k xs) there ∙ sym (drop-drop (m - n) n xs) ∙ ap (drop (m - n)) back ∙ drop-replicate (m - n) (length (drop n xs)) 0)
-
--- bytes put at the front of a buffer that is zeros from place used on
-module _ {before bytes after : List ℕ} {end : ℕ} (put : Put before 0 bytes after end) where
-  back-kept : drop end after ≡ drop end before
-  back-kept = ap (drop end) (put .holds) ∙ drop-at bytes (drop end before) end (omega (arith, put .ends))
-
-  -- with zeros after them they are padded
-  zeros-behind : {rest : List ℕ} → rest ≡ zeros (length (drop end after)) → take end after ++ rest ≡ padded (length before) bytes
-  unfolding padded
-  zeros-behind behind =
-      let left : length (drop end after) ≡ length before - length bytes = omega (arith, ap length back-kept, length-drop end before, put .ends) in
-      ap₂ _++_ (put-front put) (behind ∙ ap zeros left)
-
-  module _ (used : ℕ) (clear : Zeros (drop used before)) where
-    -- they end before place used, and what is left up to there is cleared
-    pub rest-cleared : {cleared : List ℕ} → end < used → cleared ≡ zeros (length (take (used - end) (drop end after)))
-        → take end after ++ (cleared ++ drop (used - end) (drop end after)) ≡ padded (length before) bytes
-    rest-cleared {cleared} h is =
-        let there : end + (used - end) ≡ used = omega arith in
-        zeros-behind (zeros-joined (used - end) (drop end after) cleared (rw (back-kept, drop-drop (used - end) end before, there) clear) is)
-
-    -- nothing is left
-    pub none-left : used ≤ end → after ≡ padded (length before) bytes
-    unfolding Zeros
-    none-left h = sym (take-append-drop end after) ∙ zeros-behind (rw back-kept (zeros-later used end before h clear))
 
 -- ---- runs one after the other
 

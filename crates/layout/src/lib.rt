@@ -1,6 +1,5 @@
-// How a sheet lies in the buffers: a named table put into one, and a sheet that a step has built put in the place of the sheet in hand.
-pub mod named_table; // named_table.rt: a table that a number names, put into a buffer
-pub mod settle; // settle.rt: a sheet built in the scratch takes the place of the sheet in hand
+// How a sheet lies in the buffers, and what the function of a step takes and leaves: definitions in specs/, their laws in proofs/. The crates
+// `table_putting` and `settling` have the code.
 
 // The size of a sheet. Its runs lie in the run table one after the other, its level counts at the front of the level list.
 pub struct Size {

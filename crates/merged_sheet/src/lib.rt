@@ -4,8 +4,8 @@
 use buffers::put_byte;
 use buffers::put_bytes;
 use layout::Size;
-use layout::settle::settle;
 use merge_questions::column_of;
+use settling::settle;
 use sheets::answer::Answer;
 ghost use mathlib.Core.Path.{_≡_};
 ghost use Prim.Native.Nat.{_+_, _*_, _≤_, _<_};

@@ -19,11 +19,11 @@ use ingredients::named::column_count;
 use ingredients::named::run_count;
 use ingredients::named::table_named;
 use layout::Size;
-use layout::named_table::put_level_counts;
-use layout::named_table::put_run;
-use layout::settle::settle;
+use settling::settle;
 use sheets::answer::Answer;
 use sheets::answer::Refusal;
+use table_putting::put_level_counts;
+use table_putting::put_run;
 
 // Question 6, from the level counts of the sheet: is the column on it, and has the table as many runs as the column has levels?
 fn parts_fit(list: &[u16], named: NamedTable, c: usize, levels: &[u8]) -> bool

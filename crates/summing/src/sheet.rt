@@ -14,9 +14,9 @@ ghost use Rattle.sum_bytes.specs.Summing.{EntriesStand, RowStands, RunStands, S
 use buffers::put_byte;
 use ingredients::named::NamedTable;
 use layout::Size;
-use layout::named_table::put_level_counts;
-use layout::named_table::put_run;
-use layout::settle::settle;
+use settling::settle;
+use table_putting::put_level_counts;
+use table_putting::put_run;
 
 // How many summed columns there are.
 pub(crate) fn summed_columns(levels: &[u8], widths: &[u8]) -> usize

@@ -7,10 +7,10 @@ use ingredients::named::NamedTable;
 use ingredients::named::column_count;
 use ingredients::named::run_count;
 use ingredients::named::table_named;
-use layout::named_table::put_level_counts;
-use layout::named_table::put_runs;
 use sheets::answer::Answer;
 use sheets::answer::Refusal;
+use table_putting::put_level_counts;
+use table_putting::put_runs;
 
 // A table that is named is never too large: it keeps the limits of the order (question 2).
 pub fn take(list: &[u16], at: usize, table: &mut [u8], levels: &mut [u8]) -> Answer

@@ -1,8 +1,8 @@
--- `layout::settle::replace` meets its contract: the bytes are put, and what is left of the used ones after them is cleared.
+-- `settling::replace` meets its contract: the bytes are put, and what is left of the used ones after them is cleared.
 use borrow.Author.Needs.{needs}
-use Rattle.layout.proofs.Bytes.{rest-cleared, none-left}
-use Rattle.layout.proofs.settle.replace.Statement.{statement}
-use Rattle.layout.proofs.settle.replace.Tie as tie
+use Rattle.settling.proofs.Cleared.{rest-cleared, none-left}
+use Rattle.settling.proofs.replace.Statement.{statement}
+use Rattle.settling.proofs.replace.Tie as tie
 
 put-bytes-requires : tie.Need-put-bytes-requires
 put-bytes-requires c κs = search needs

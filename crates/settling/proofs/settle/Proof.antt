@@ -1,12 +1,13 @@
--- `layout::settle::settle` meets its contract: each of the three buffers by its own function.
+-- `settling::settle` meets its contract: each of the three buffers by its own function.
 use borrow.Author.Needs.{needs}
 use mathlib.Core.Path.{sym}
 use native.Mathlib.Omega.{arith}
 use lib.ListN.{length}
 use lib.Seq.{length-take-le}
-use Rattle.layout.proofs.Bytes.{zeros-joined, zeros-all}
-use Rattle.layout.proofs.settle.settle.Statement.{statement}
-use Rattle.layout.proofs.settle.settle.Tie as tie
+use Rattle.layout.proofs.Bytes.{zeros-all}
+use Rattle.settling.proofs.Cleared.{zeros-joined}
+use Rattle.settling.proofs.settle.Statement.{statement}
+use Rattle.settling.proofs.settle.Tie as tie
 
 slice-reshare-prefix-replace : tie.Need-slice-reshare-prefix-replace
 slice-reshare-prefix-replace c = search needs

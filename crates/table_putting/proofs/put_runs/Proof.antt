@@ -1,4 +1,4 @@
--- `layout::named_table::put_runs` meets its contract. The invariant: the first runs are put, up to `place`.
+-- `table_putting::put_runs` meets its contract. The invariant: the first runs are put, up to `place`.
 use mathlib.Core.Path.{_≡_}
 use mathlib.Core.List.{flatMap}
 use Prim.Native.Nat.{_≤_, _-_}
@@ -8,11 +8,11 @@ use Rattle.finite.specs.Lists.{from}
 use Rattle.buffers.specs.Put.{Put}
 use Rattle.buffers.proofs.Puts.{put-length}
 use Rattle.ingredients.specs.Named.{tableIn}
 use Rattle.layout.specs.Bytes.{runOf, runsOf}
 use Rattle.layout.proofs.Bytes.{run-length}
 use Rattle.layout.proofs.Rows.{pieces-none, pieces-next, pieces-room}
-use Rattle.layout.proofs.named_table.put_runs.Statement.{statement}
-use Rattle.layout.proofs.named_table.put_runs.Tie as tie
+use Rattle.table_putting.proofs.put_runs.Statement.{statement}
+use Rattle.table_putting.proofs.put_runs.Tie as tie
 
 abbrev Inv-loop : tie.InvT-loop
 Inv-loop list table buf₀ runs place₀ run₀ buf place run =
