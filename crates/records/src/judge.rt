@@ -9,30 +9,19 @@ ghost use Rattle.sheets.specs.Steps.{Outcome};
 ghost use Rattle.promise.specs.Promise.{planned};
 ghost use Rattle.report.specs.Report.{answerRoom, Printable};
 ghost use Rattle.byte_texts.specs.Bytes.{sameBytes};
-ghost use Rattle.records.specs.Record.{lengthsIn, lengthsGiven, cameTo, answerNumber, judgedAs, judged, restZero};
+ghost use Rattle.record_texts.specs.Record.{lengthsIn, lengthsGiven, cameTo, answerNumber, judgedAs, judged, restZero};
 use byte_texts::find;
 use byte_texts::same;
 use byte_texts::zero_from;
 use numbering::numbers_of;
 use printing::plan_and_put;
+use record_texts::Judged;
+use record_texts::Lengths;
 use report::put_refused;
 use sheets::answer::Answer;
 use sheets::answer::Refusal;
 use words::Scan;
 use words::Scanned;
-
-// The lengths of the buffers that are lent.
-pub(crate) struct Lengths {
-    pub(crate) table: usize,
-    pub(crate) levels: usize,
-    pub(crate) scratch: usize,
-}
-
-// What an order came to: 01's number of its refusal, 0 where it was filled, and whether all is as the text has it.
-pub(crate) struct Judged {
-    pub(crate) number: usize,
-    pub(crate) same: bool,
-}
 
 // The numbers of a text.
 fn scan(text: &[u8], list: &mut [u16; 32768]) -> Scanned

@@ -21,25 +21,18 @@ ghost use mathlib.Core.Path.{_≡_};
 ghost use mathlib.Core.List.{[]};
 ghost use Prim.Native.Nat.{_≤_};
 ghost use lib.ListN.{length};
-ghost use Rattle.records.specs.Text.{Compared, endsItem, afterRecord, afterItem, afterByte, afterText};
-ghost use Rattle.records.specs.State.{progress, progressOf};
-use judge::Lengths;
+ghost use Rattle.record_texts.specs.Text.{Compared, endsItem, afterRecord, afterItem, afterByte, afterText};
+ghost use Rattle.record_texts.specs.State.{progress, progressOf};
 use judge::judge;
 use judge::lengths_of;
 use libc::STDIN_FILENO;
+use record_texts::Lengths;
+use record_texts::State;
 use summary::Tally;
 use summary::count;
 use summary::print_counts;
 use summary::print_difference;
 use summary::record_counted;
-
-// How far a text has been compared: what is counted so far, the lengths of the buffers for the next record, and how many bytes of the next item are
-// held.
-struct State {
-    tally: Tally,
-    lengths: Lengths,
-    held: usize,
-}
 
 // Room for an item. The contract tells the length alone, so that no proof writes the zeros out.
 fn item_room() -> [u8; 262144]

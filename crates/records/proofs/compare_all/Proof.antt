@@ -3,8 +3,8 @@ use mathlib.Core.Path.{_≡_}
 use Prim.Native.Nat.{_≤_}
 use lib.ListN.{length}
 use borrow.Author.Needs.{needs}
-use Rattle.records.specs.State.{progressOf}
-use Rattle.records.proofs.Texts.{Underway, underway-start, underway-piece, underway-tally, few-differ}
+use Rattle.record_texts.specs.State.{progressOf}
+use Rattle.record_texts.proofs.Texts.{Underway, underway-start, underway-piece, underway-tally, few-differ}
 use Rattle.records.proofs.compare_all.Statement.{statement}
 use Rattle.records.proofs.compare_all.Tie as tie
 

@@ -2,7 +2,7 @@
 use mathlib.Core.Path.{sym, _∙_}
 use native.Mathlib.Omega.{arith}
 use lib.Seq.{length-take-le}
-use Rattle.records.proofs.Texts.{byte-ends, byte-held, byte-cut}
+use Rattle.record_texts.proofs.Texts.{byte-ends, byte-held, byte-cut}
 use borrow.Author.Needs.{needs}
 use Rattle.records.proofs.compare_byte.Statement.{statement}
 use Rattle.records.proofs.compare_byte.Tie as tie

@@ -1,8 +1,8 @@
 -- `compare_item` meets its contract: an empty item, a line of lengths, a record, or a remark.
 use mathlib.Core.Path.{refl, _∙_, ap}
 use Rattle.byte_texts.proofs.Comparing.{rest-whole}
-use Rattle.records.specs.Record.{lengthsGiven}
-use Rattle.records.proofs.Texts.{item-empty, item-lengths, item-record, item-remark}
+use Rattle.record_texts.specs.Record.{lengthsGiven}
+use Rattle.record_texts.proofs.Texts.{item-empty, item-lengths, item-record, item-remark}
 use borrow.Author.Needs.{needs}
 use Rattle.records.proofs.compare_item.Statement.{statement}
 use Rattle.records.proofs.compare_item.Tie as tie

@@ -3,9 +3,9 @@ use mathlib.Core.Path.{_≡_, refl, sym, _∙_}
 use Prim.Native.Nat.{_-_, _≤_}
 use lib.ListN.{length, drop}
 use borrow.Author.Needs.{needs}
-use Rattle.records.specs.Text.{afterText}
-use Rattle.records.specs.State.{progressOf}
-use Rattle.records.proofs.Texts.{text-next, text-end}
+use Rattle.record_texts.specs.Text.{afterText}
+use Rattle.record_texts.specs.State.{progressOf}
+use Rattle.record_texts.proofs.Texts.{text-next, text-end}
 use Rattle.records.proofs.compare_piece.Statement.{statement}
 use Rattle.records.proofs.compare_piece.Tie as tie
 

@@ -5,7 +5,7 @@ use mathlib.Core.Logic.{⊎-elim}
 use lib.Dec.{ltb}
 use lib.ListN.{length}
 use borrow.Author.Tests.{lt-ltb, le-ltb}
-use Rattle.records.proofs.Texts.{record-counted}
+use Rattle.record_texts.proofs.Texts.{record-counted}
 use borrow.Author.Needs.{needs}
 use Rattle.records.proofs.compare_record.Statement.{statement}
 use Rattle.records.proofs.compare_record.Tie as tie

@@ -4,8 +4,8 @@ use mathlib.Core.Path.{_≡_}
 use mathlib.Core.Bool.{true, false}
 use lib.ListN.{getD}
 use borrow.Author.Tests.{eq-eqb, ne-eqb}
-use Rattle.records.specs.Text.{isLine}
-use Rattle.records.proofs.Texts.{ends-empty, ends-by}
+use Rattle.record_texts.specs.Text.{isLine}
+use Rattle.record_texts.proofs.Texts.{ends-empty, ends-by}
 use borrow.Author.Needs.{needs}
 use Rattle.records.proofs.ends_item.Statement.{statement}
 use Rattle.records.proofs.ends_item.Tie as tie

@@ -2,7 +2,7 @@
 use mathlib.Core.Path.{_∙_, ap}
 use Rattle.byte_texts.specs.Bytes.{sameBytes}
 use Rattle.byte_texts.proofs.Comparing.{rest-whole}
-use Rattle.records.proofs.Judging.{stored-short, stored-other, stored-on, stored-rest}
+use Rattle.record_texts.proofs.Judging.{stored-short, stored-other, stored-on, stored-rest}
 use borrow.Author.Needs.{needs}
 use Rattle.records.proofs.judge.is_stored.Statement.{statement}
 use Rattle.records.proofs.judge.is_stored.Tie as tie

@@ -6,7 +6,7 @@ use lib.ListN.{length}
 use lib.Seq.{length-take-le}
 use Rattle.words.proofs.Bounds.{ended-room}
 use Rattle.byte_texts.proofs.Comparing.{rest-whole, first-most}
-use Rattle.records.proofs.Judging.{reads-numbers, reads-refused, judged-whole}
+use Rattle.record_texts.proofs.Judging.{reads-numbers, reads-refused, judged-whole}
 use borrow.Author.Needs.{needs}
 use Rattle.records.proofs.judge.judge.Statement.{statement}
 use Rattle.records.proofs.judge.judge.Tie as tie

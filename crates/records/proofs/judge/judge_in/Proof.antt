@@ -1,7 +1,7 @@
 -- `judge_in` meets its contract: what is put is what the outcome prints, and the bytes that are looked at are zero by the promise of `plan`.
 use Rattle.buffers.proofs.Puts.{put-part, put-front}
 use Rattle.printing.proofs.Printing.{promise-printable}
-use Rattle.records.proofs.Judging.{promise-judged}
+use Rattle.record_texts.proofs.Judging.{promise-judged}
 use borrow.Author.Needs.{needs}
 use Rattle.records.proofs.judge.judge_in.Statement.{statement}
 use Rattle.records.proofs.judge.judge_in.Tie as tie

@@ -3,7 +3,7 @@ use mathlib.Core.Path.{sym, _∙_}
 use native.Mathlib.Omega.{arith}
 use lib.ListN.{length-replicate}
 use lib.Seq.{length-take-le}
-use Rattle.records.proofs.Judging.{judged-alike}
+use Rattle.record_texts.proofs.Judging.{judged-alike}
 use borrow.Author.Needs.{needs}
 use Rattle.records.proofs.judge.judge_list.Statement.{statement}
 use Rattle.records.proofs.judge.judge_list.Tie as tie

@@ -1,6 +1,6 @@
 -- `judge_unread` meets its contract: the line of the refusal is compared with what is stored.
 use Rattle.buffers.proofs.Puts.{put-part, put-front}
-use Rattle.records.proofs.Judging.{judged-unread}
+use Rattle.record_texts.proofs.Judging.{judged-unread}
 use borrow.Author.Needs.{needs}
 use Rattle.records.proofs.judge.judge_unread.Statement.{statement}
 use Rattle.records.proofs.judge.judge_unread.Tie as tie

@@ -1,5 +1,5 @@
 -- `lengths_in` meets its contract: the three lengths.
-use Rattle.records.proofs.Judging.{lengths-three}
+use Rattle.record_texts.proofs.Judging.{lengths-three}
 use borrow.Author.Needs.{needs}
 use Rattle.records.proofs.judge.lengths_in.Statement.{statement}
 use Rattle.records.proofs.judge.lengths_in.Tie as tie

@@ -2,7 +2,7 @@
 use mathlib.Core.Path.{sym}
 use lib.Seq.{length-take-le}
 use Rattle.words.proofs.Bounds.{ended-room}
-use Rattle.records.proofs.Judging.{reads-numbers, reads-refused, lengths-read}
+use Rattle.record_texts.proofs.Judging.{reads-numbers, reads-refused, lengths-read}
 use borrow.Author.Needs.{needs}
 use Rattle.records.proofs.judge.lengths_of.Statement.{statement}
 use Rattle.records.proofs.judge.lengths_of.Tie as tie

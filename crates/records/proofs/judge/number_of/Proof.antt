@@ -1,5 +1,5 @@
 -- `number_of` meets its contract, for a table and for a refusal.
-use Rattle.records.proofs.Judging.{filled-number, refused-number}
+use Rattle.record_texts.proofs.Judging.{filled-number, refused-number}
 use borrow.Author.Needs.{needs}
 use Rattle.records.proofs.judge.number_of.Statement.{statement}
 use Rattle.records.proofs.judge.number_of.Tie as tie

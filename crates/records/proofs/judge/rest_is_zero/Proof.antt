@@ -1,6 +1,6 @@
 -- `rest_is_zero` meets its contract, for a table and for a refusal.
 use native.Mathlib.Omega.{arith}
-use Rattle.records.proofs.Judging.{cells-within, filled-rest, refused-rest}
+use Rattle.record_texts.proofs.Judging.{cells-within, filled-rest, refused-rest}
 use borrow.Author.Needs.{needs}
 use Rattle.records.proofs.judge.rest_is_zero.Statement.{statement}
 use Rattle.records.proofs.judge.rest_is_zero.Tie as tie

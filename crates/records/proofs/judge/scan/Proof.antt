@@ -1,6 +1,6 @@
 -- `scan` meets its contract: the text is one piece.
 use Rattle.words.proofs.Bounds.{sound-start, sound-piece, sound-finish}
-use Rattle.records.proofs.Judging.{scanned-text}
+use Rattle.record_texts.proofs.Judging.{scanned-text}
 use borrow.Author.Needs.{needs}
 use Rattle.records.proofs.judge.scan.Statement.{statement}
 use Rattle.records.proofs.judge.scan.Tie as tie

@@ -1,4 +1,4 @@
--- A text of records, byte by byte: the head of src/lib.rt shows its lines.
+-- A text of records, byte by byte: the head of records/src/lib.rt shows its lines.
 use mathlib.Core.Path.{_≡_}
 use mathlib.Core.Bool.{Bool, cond, _&&_, _||_}
 use mathlib.Core.List.{List, [], _∷_, _++_, foldl, flatten}
@@ -7,8 +7,8 @@ use lib.Dec.{eqb, ltb}
 use lib.ListN.{length, take, replicate}
 use Rattle.summary.specs.Counts.{recordCounted, answerCounted}
 use Rattle.summary.specs.declared.Tally.{Tally}
-use Rattle.records.specs.Record.{lengthsGiven, judged}
-use Rattle.records.specs.declared.judge.Lengths.{Lengths}
+use Rattle.record_texts.specs.Record.{lengthsGiven, judged}
+use Rattle.record_texts.specs.declared.Lengths.{Lengths}
 
 -- How far a text has been compared.
 pub record Comparison : Type 0 where

@@ -1,4 +1,4 @@
--- What is judgedAs of one record: the laws that the functions of src/judge.rt rest on.
+-- What is judgedAs of one record: the laws that the functions of records/src/judge.rt rest on.
 -- Assumes nothing.
 use mathlib.Core.Path.{_≡_, refl, sym, _∙_, ap}
 use mathlib.Core.Logic.{_↔_}
@@ -29,9 +29,9 @@ use Rattle.layout.proofs.Bytes.{runs-length}
 use Rattle.promise.specs.Promise.{planned, answerTo, tableBytes, levelBytes, Promise}
 use Rattle.report.specs.Report.{refusalLine, Printable, outcomePrinted}
 use Rattle.byte_texts.specs.Bytes.{firstPlace, sameBytes, allZero}
-use Rattle.records.specs.Record.{lengthsIn, lengthsGiven, lengthsRead, cameTo, answerNumber, judgedAs, judged, restZero}
-use Rattle.records.specs.declared.judge.Judged.{Judged}
-use Rattle.records.specs.declared.judge.Lengths.{Lengths}
+use Rattle.record_texts.specs.Record.{lengthsIn, lengthsGiven, lengthsRead, cameTo, answerNumber, judgedAs, judged, restZero}
+use Rattle.record_texts.specs.declared.Judged.{Judged}
+use Rattle.record_texts.specs.declared.Lengths.{Lengths}
 use Rattle.byte_texts.proofs.Comparing.{first-most, same-iff, zeros-zero}
 
 abbrev judgedBy : ℕ → Bool → Judged

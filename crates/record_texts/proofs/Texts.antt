@@ -14,12 +14,12 @@ use Rattle.lines.proofs.Cases.{by-cases}
 use Rattle.summary.specs.Counts.{recordCounted, answerCounted}
 use Rattle.summary.specs.declared.Tally.{Tally}
 use Rattle.summary.proofs.Counts.{few-counted}
-use Rattle.records.specs.Record.{lengthsGiven, judged}
-use Rattle.records.specs.Text.{Comparison, isLine, endsItem, afterRecord, afterLengths, afterNothing, afterItemOf, afterItem, afterByte, afterText, start, compared, Compared}
-use Rattle.records.specs.State.{progress, progressOf}
-use Rattle.records.specs.declared.State.{State}
-use Rattle.records.specs.declared.judge.Judged.{Judged}
-use Rattle.records.specs.declared.judge.Lengths.{Lengths}
+use Rattle.record_texts.specs.Record.{lengthsGiven, judged}
+use Rattle.record_texts.specs.Text.{Comparison, isLine, endsItem, afterRecord, afterLengths, afterNothing, afterItemOf, afterItem, afterByte, afterText, start, compared, Compared}
+use Rattle.record_texts.specs.State.{progress, progressOf}
+use Rattle.record_texts.specs.declared.State.{State}
+use Rattle.record_texts.specs.declared.Judged.{Judged}
+use Rattle.record_texts.specs.declared.Lengths.{Lengths}
 
 -- The byte that ends an item.
 module _ (byte : ℕ) where

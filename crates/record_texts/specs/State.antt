@@ -3,9 +3,9 @@ use mathlib.Core.List.{List}
 use Prim.Native.Nat.{ℕ}
 use lib.ListN.{take}
 use Rattle.summary.specs.declared.Tally.{Tally}
-use Rattle.records.specs.Text.{Comparison}
-use Rattle.records.specs.declared.State.{State}
-use Rattle.records.specs.declared.judge.Lengths.{Lengths}
+use Rattle.record_texts.specs.Text.{Comparison}
+use Rattle.record_texts.specs.declared.State.{State}
+use Rattle.record_texts.specs.declared.Lengths.{Lengths}
 
 abbrev pub progress : Tally → Lengths → List ℕ → List ℕ → Comparison
 progress tally lengths item answers = record { tally = tally; answers = answers; lengths = lengths; item = item }

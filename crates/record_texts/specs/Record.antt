@@ -1,4 +1,4 @@
--- A record: an order, and what is stored as its answer. The head of src/lib.rt shows the lines.
+-- A record: an order, and what is stored as its answer. The head of records/src/lib.rt shows the lines.
 use mathlib.Core.Bool.{Bool, _&&_}
 use mathlib.Core.List.{List, [], _∷_}
 use Prim.Native.Nat.{ℕ, _+_, _*_, min}
@@ -12,8 +12,8 @@ use Rattle.sheets.specs.declared.answer.Answer.the-variants.{Filled, Refused}
 use Rattle.promise.specs.Promise.{planned, answerTo}
 use Rattle.report.specs.Report.{outcomePrinted}
 use Rattle.byte_texts.specs.Bytes.{firstPlace, sameBytes, allZero}
-use Rattle.records.specs.declared.judge.Judged.{Judged}
-use Rattle.records.specs.declared.judge.Lengths.{Lengths}
+use Rattle.record_texts.specs.declared.Judged.{Judged}
+use Rattle.record_texts.specs.declared.Lengths.{Lengths}
 
 -- The lengths that some numbers give: each is 65,536 times a number, plus the next. A number that is missing is 0.
 unfoldable pub lengthsIn : List ℕ → Lengths
