@@ -1,13 +1,11 @@
 // Runs the checks of `counting` on arrays that the papers print, on damaged copies of some, and on generators, and prints what each found.
-mod digits;
 mod generators;
 mod matrices;
-mod report;
 mod tables;
 
-use report::report_generator;
-use report::report_matrix;
-use report::report_table;
+use findings::report_generator;
+use findings::report_matrix;
+use findings::report_table;
 
 fn main() {
     table_4();

@@ -2,7 +2,7 @@
 -- Assumes nothing.
 use mathlib.Core.Path.{refl}
 use borrow.Author.Needs.{needs}
-use Rattle.papers.proofs.Written.{written-table, written-matrix}
+use Rattle.findings.proofs.Written.{written-table, written-matrix}
 use Rattle.papers.proofs.damaged_copies.Statement.{statement}
 use Rattle.papers.proofs.damaged_copies.Tie as tie
 

@@ -2,7 +2,7 @@
 -- Assumes nothing.
 use mathlib.Core.Path.{refl}
 use borrow.Author.Needs.{needs}
-use Rattle.papers.proofs.Written.{written-matrix}
+use Rattle.findings.proofs.Written.{written-matrix}
 use Rattle.papers.proofs.difference_matrices.Statement.{statement}
 use Rattle.papers.proofs.difference_matrices.Tie as tie
 

@@ -5,7 +5,7 @@ use borrow.Author.Needs.{needs}
 use Rattle.finite.specs.Sum.{sum}
 use Rattle.galois.specs.Arithmetic.{fieldSize}
 use Rattle.counting.specs.Generator.{width}
-use Rattle.papers.proofs.Written.{written-generator}
+use Rattle.findings.proofs.Written.{written-generator}
 use Rattle.papers.proofs.printed_generators.Statement.{statement}
 use Rattle.papers.proofs.printed_generators.Tie as tie
 

@@ -2,7 +2,7 @@
 -- Assumes nothing.
 use mathlib.Core.Path.{refl}
 use borrow.Author.Needs.{needs}
-use Rattle.papers.proofs.Written.{written-table}
+use Rattle.findings.proofs.Written.{written-table}
 use Rattle.papers.proofs.table_4.Statement.{statement}
 use Rattle.papers.proofs.table_4.Tie as tie
 

@@ -15,8 +15,8 @@ use Rattle.galois.proofs.Tests.{all, passed}
 use Rattle.counting.specs.Table.{tableOf, InRange}
 use Rattle.counting.specs.Matrix.{matrixOf, MatrixInRange}
 use Rattle.counting.specs.Generator.{width, generatorOf, ElementsInRange}
-use Rattle.papers.specs.Digits.{digitValues}
-use Rattle.papers.specs.Written.{WrittenTable, WrittenMatrix, WrittenGenerator}
+use Rattle.findings.specs.Digits.{digitValues}
+use Rattle.findings.specs.Written.{WrittenTable, WrittenMatrix, WrittenGenerator}
 
 -- the test passes at every entry of a list and its place, counted from i
 abbrev pub each : (ℕ → ℕ → Bool) → ℕ → List ℕ → Bool

@@ -1,10 +1,10 @@
--- `report::report_table` meets its contract: what is lent to `check_table` are the values of the text's digits, and as many.
+-- `findings::report_table` meets its contract: what is lent to `check_table` are the values of the text's digits, and as many.
 -- Assumes nothing.
 use mathlib.Core.Path.{sym, _∙_, ap}
 use borrow.Author.Needs.{needs}
 use lib.ListN.{length, length-map}
-use Rattle.papers.proofs.report.report_table.Statement.{statement}
-use Rattle.papers.proofs.report.report_table.Tie as tie
+use Rattle.findings.proofs.report_table.Statement.{statement}
+use Rattle.findings.proofs.report_table.Tie as tie
 
 slice-aggregate-check-table : tie.Need-slice-aggregate-check-table
 slice-aggregate-check-table c = sym (ap length (c .before .before .digit-values .ensures) ∙ simp length-map)

@@ -1,10 +1,10 @@
--- `report::report_generator` meets its contract: what is lent to `check_generator` are the values of the text's digits, and as many.
+-- `findings::report_generator` meets its contract: what is lent to `check_generator` are the values of the text's digits, and as many.
 -- Assumes nothing.
 use mathlib.Core.Path.{sym, _∙_, ap}
 use borrow.Author.Needs.{needs}
 use lib.ListN.{length, length-map}
-use Rattle.papers.proofs.report.report_generator.Statement.{statement}
-use Rattle.papers.proofs.report.report_generator.Tie as tie
+use Rattle.findings.proofs.report_generator.Statement.{statement}
+use Rattle.findings.proofs.report_generator.Tie as tie
 
 slice-aggregate-check-generator : tie.Need-slice-aggregate-check-generator
 slice-aggregate-check-generator c = sym (ap length (c .before .before .digit-values .ensures) ∙ simp length-map)

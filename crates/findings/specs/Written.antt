@@ -3,7 +3,7 @@ use mathlib.Core.List.{List}
 use Prim.Native.Nat.{ℕ, _≤_}
 use lib.ListN.{length}
 use Rattle.counting.specs.Checkable.{CheckableTable, CheckableMatrix, CheckableGenerator}
-use Rattle.papers.specs.Digits.{digitValues}
+use Rattle.findings.specs.Digits.{digitValues}
 
 -- the runs of a table, one after the other
 pub record WrittenTable (text levels : List ℕ) (runs : ℕ) : Type 0 where

@@ -1,14 +1,16 @@
-// Checks an array and prints its name and what was found.
-use crate::digits::digit_values;
+// What a check finds, printed: an array that is written as digits is checked, and its name and what was found are printed.
+mod digits; // digits.rt: the values of a text's digits
+
 use counting::verdict::GeneratorFinding;
 use counting::verdict::MatrixFinding;
 use counting::verdict::TableFault;
 use counting::verdict::TableFinding;
+use digits::digit_values;
 use generator_check::check_generator;
 use libc::STDOUT_FILENO;
 use matrix_check::check_matrix;
 use table_check::check_table;
-ghost use Rattle.papers.specs.Written.{WrittenTable, WrittenMatrix, WrittenGenerator};
+ghost use Rattle.findings.specs.Written.{WrittenTable, WrittenMatrix, WrittenGenerator};
 
 // The table whose runs the digits of `text` are, one run after the other.
 pub fn report_table(name: &[u8], text: &[u8], levels: &[u8], runs: usize)

@@ -6,7 +6,7 @@ use Prim.Native.Nat.{ℕ, _+_, _<_}
 use native.Mathlib.Numerals.{add-one}
 use lib.ListN.{length, take, getD, set}
 use lib.Seq.{take-suc, take-suc-set}
-use Rattle.papers.specs.Digits.{digitValue, digitValues}
+use Rattle.findings.specs.Digits.{digitValue, digitValues}
 
 pub one-more : (text cells : List ℕ) (i : ℕ) → i < length text → i < length cells
     → take i cells ≡ digitValues (take i text)

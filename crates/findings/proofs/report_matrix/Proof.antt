@@ -1,10 +1,10 @@
--- `report::report_matrix` meets its contract: what is lent to `check_matrix` are the values of the text's digits, and as many.
+-- `findings::report_matrix` meets its contract: what is lent to `check_matrix` are the values of the text's digits, and as many.
 -- Assumes nothing.
 use mathlib.Core.Path.{sym, _∙_, ap}
 use borrow.Author.Needs.{needs}
 use lib.ListN.{length, length-map}
-use Rattle.papers.proofs.report.report_matrix.Statement.{statement}
-use Rattle.papers.proofs.report.report_matrix.Tie as tie
+use Rattle.findings.proofs.report_matrix.Statement.{statement}
+use Rattle.findings.proofs.report_matrix.Tie as tie
 
 slice-aggregate-check-matrix : tie.Need-slice-aggregate-check-matrix
 slice-aggregate-check-matrix c = sym (ap length (c .before .before .digit-values .ensures) ∙ simp length-map)

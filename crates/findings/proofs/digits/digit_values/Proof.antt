@@ -5,10 +5,10 @@ use Prim.Native.Nat.{ℕ, _-_, _≤_}
 use native.Mathlib.Omega.{arith}
 use lib.ListN.{length, take, length-set}
 use lib.Seq.{take-length}
-use Rattle.papers.specs.Digits.{digitValues}
-use Rattle.papers.proofs.DigitValues.{one-more}
-use Rattle.papers.proofs.digits.digit_values.Statement.{statement}
-use Rattle.papers.proofs.digits.digit_values.Tie as tie
+use Rattle.findings.specs.Digits.{digitValues}
+use Rattle.findings.proofs.DigitValues.{one-more}
+use Rattle.findings.proofs.digits.digit_values.Statement.{statement}
+use Rattle.findings.proofs.digits.digit_values.Tie as tie
 
 abbrev Inv-loop : tie.InvT-loop
 Inv-loop text cells₀ i₀ cells i =

@@ -2,7 +2,7 @@
 ghost use mathlib.Core.Path.{_≡_};
 ghost use Prim.Native.Nat.{_≤_};
 ghost use lib.ListN.{length, take};
-ghost use Rattle.papers.specs.Digits.{digitValues};
+ghost use Rattle.findings.specs.Digits.{digitValues};
 
 // Puts the values of a text's digits at the start of `cells`.
 pub fn digit_values(text: &[u8], cells: &mut [u8])
