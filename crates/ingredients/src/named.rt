@@ -123,7 +123,7 @@ pub fn level(list: &[u16], table: NamedTable, run: usize, column: usize) -> u8
             levels_at: _,
             entries_at,
         } => list[entries_at + run * columns + column] as u8,
-        NamedTable::House { number } => house::cell(number, run, column),
+        NamedTable::House { number } => house_runs::cell(number, run, column),
         NamedTable::Missing => 0,
     }
 }

@@ -1,10 +1,10 @@
--- `house::cell` meets its contract: each arm's constant is that of the table with the arm's number.
+-- `house_runs::cell` meets its contract: each arm's constant is that of the table with the arm's number.
 -- Assumes nothing.
 use native.Mathlib.Omega.{arith}
 use Rattle.house.specs.House.{houseOf, house101, house102, house103, house104}
 use Rattle.house.proofs.Passing.{house-at, last-house}
-use Rattle.house.proofs.cell.Statement.{statement}
-use Rattle.house.proofs.cell.Tie as tie
+use Rattle.house_runs.proofs.cell.Statement.{statement}
+use Rattle.house_runs.proofs.cell.Tie as tie
 
 index-1-result : tie.Need-index-1-result
 unfolding houseOf house101 house102 house103 house104
