@@ -1,4 +1,4 @@
-// The numbers of standard input, which is read as far as they need it: up to its end, or to a word that is refused (document 01, "Printed runs").
+// The numbers of standard input, which is read as far as they need it: up to its end, or to a word that is refused (document 01, "Printed runs"); and what answers it, as a definition.
 ghost use mathlib.Core.Path.{_≡_};
 ghost use lib.ListN.{length};
 ghost use Rattle.input.specs.Input.{afterRead, ScannedInput};

@@ -7,7 +7,7 @@ ghost use Rattle.buffers.specs.Put.{Put};
 ghost use Rattle.sheets.specs.Outcome.{outcome};
 ghost use Rattle.words.specs.Scanner.{scannedReading, Ended};
 ghost use Rattle.report.specs.Report.{outcomePrinted, readingPrinted, answerRoom};
-ghost use Rattle.planner.specs.Answering.{Answering};
+ghost use Rattle.input.specs.Answering.{Answering};
 use input::scan_input;
 use libc::STDOUT_FILENO;
 use printing::plan_and_put;

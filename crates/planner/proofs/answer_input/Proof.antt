@@ -1,5 +1,5 @@
 -- `planner::answer_input` meets its contract: what was put for the text that was scanned is what is printed for it.
-use Rattle.planner.proofs.Answers.{input-put}
+use Rattle.input.proofs.Answers.{input-put}
 use borrow.Author.Needs.{needs}
 use Rattle.planner.proofs.answer_input.Statement.{statement}
 use Rattle.planner.proofs.answer_input.Tie as tie

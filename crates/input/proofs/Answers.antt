@@ -10,9 +10,9 @@ use Rattle.buffers.proofs.Puts.{put-length, put-front}
 use Rattle.words.specs.Scanner.{scannedReading}
 use Rattle.words.specs.declared.Scanned.{Scanned}
 use Rattle.words.proofs.Following.{refused-stays}
 use Rattle.input.specs.Input.{text, ScannedInput}
 use Rattle.report.specs.Report.{readingPrinted, output}
-use Rattle.planner.specs.Answering.{Answering}
+use Rattle.input.specs.Answering.{Answering}
 
 -- What was put for a text that was scanned is the answer to it.
 pub input-put : {answer : Scanned} {list before after : List ℕ} {end : ℕ} → ScannedInput answer list
