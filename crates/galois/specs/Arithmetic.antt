@@ -3,8 +3,8 @@
 -- Assumes nothing.
 use mathlib.Core.Bool.{Bool, false, cond, _||_}
 use mathlib.Core.List.{List, [], _∷_}
-use Prim.Native.Nat.{ℕ, zero, suc, _+_, _-_, _*_, _/_, _%_, _<_}
-use lib.Dec.{T, eqb}
+use Prim.Native.Nat.{ℕ, zero, suc, _+_, _-_, _*_, _/_, _%_}
+use lib.Dec.{eqb}
 use lib.ListN.{length, getD, take}
 
 -- x is in the list
@@ -80,9 +80,3 @@ fieldSum s a b = sumBy (ruleOf s) s a b
 -- the product of a and b in the field of s elements
 unfoldable pub fieldProduct : ℕ → ℕ → ℕ → ℕ
 fieldProduct s a b = productBy (ruleOf s) s a b
-
--- s is the size of a field, and a and b are two of its elements
-pub record Operands (s a b : ℕ) : Type 0 where
-  pub size : T (fieldSize s)
-  pub first : a < s
-  pub second : b < s
