@@ -1,5 +1,8 @@
 // The check of a generator. One that passes, as nearly all do, is known by the combinations of each factor alone. Otherwise the coefficient
 // lists of every two factors, or of an only one, are tried in increasing order until one combines their columns to zero.
+use combining::Block;
+use combining::Combining;
+use combining::Dependence;
 use counting::verdict::DependenceFault;
 use counting::verdict::GeneratorFinding;
 use finite::pairs::IndexPair;
@@ -14,25 +17,8 @@ ghost use Rattle.galois.specs.Arithmetic.{fieldSum, fieldProduct};
 ghost use Rattle.counting.specs.Checkable.{CheckableGenerator};
 ghost use Rattle.counting.specs.Generator.{generatorOf, width};
 ghost use Rattle.counting.specs.GeneratorVerdict.{combinesToZero, dependence, pairDependence, generatorFinding, generatorVerdict};
-ghost use Rattle.generator_check.specs.Combining.{combined, ElementsAt, gridOf, BlocksIn, blockColumns, noBlock, rowCombination, combinationCode, asDependence, factorBlock};
-ghost use Rattle.generator_check.specs.Marks.{NewCodes};
-// Where the columns of a factor start in a row, and how many they are.
-pub struct Block {
-    pub start: usize,
-    pub width: usize,
-}
-
-// The number of the least coefficient list that combines columns to zero, if there is one.
-pub enum Dependence {
-    Nothing,
-    Least(usize),
-}
-
-// Coefficients that are left to use, the last one lowest, and the combination so far.
-pub struct Combining {
-    pub rest: usize,
-    pub sum: u8,
-}
+ghost use Rattle.combining.specs.Combining.{combined, ElementsAt, gridOf, BlocksIn, blockColumns, noBlock, rowCombination, combinationCode, asDependence, factorBlock};
+ghost use Rattle.combining.specs.Marks.{NewCodes};
 
 // The verdict on the generator whose rows lie one after the other in `entries`.
 pub fn check_generator(entries: &[u8], t: usize, s: u8, widths: &[u8]) -> GeneratorFinding

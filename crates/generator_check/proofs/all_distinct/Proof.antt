@@ -10,11 +10,11 @@ use borrow.Author.Tests.{not-false}
 use lib.ListN.{length, getD}
 use Rattle.finite.specs.Sum.{sum}
 use borrow.Author.Needs.{needs}
-use Rattle.generator_check.specs.Combining.{factorBlock, combinationCode}
-use Rattle.generator_check.specs.Marks.{Marked}
-use Rattle.generator_check.proofs.Factors.{one-block}
-use Rattle.generator_check.proofs.Distinct.{distinct-passes}
-use Rattle.generator_check.proofs.Marks.{Seen, seen-none, seen-more}
+use Rattle.combining.specs.Combining.{factorBlock, combinationCode}
+use Rattle.combining.specs.Marks.{Marked}
+use Rattle.combining.proofs.Factors.{one-block}
+use Rattle.combining.proofs.Distinct.{distinct-passes}
+use Rattle.combining.proofs.Marks.{Seen, seen-none, seen-more}
 use Rattle.generator_check.proofs.all_distinct.Statement.{statement}
 use Rattle.generator_check.proofs.all_distinct.Tie as tie
 

@@ -7,7 +7,7 @@ use Rattle.counting.specs.Generator.{generatorOf, width}
 use Rattle.counting.specs.GeneratorVerdict.{generatorFinding, generatorVerdict}
 use Rattle.counting.proofs.GeneratorVerdicts.{fault-only, fault-pairs}
 use borrow.Author.Needs.{needs}
-use Rattle.generator_check.proofs.Factors.{one-block, only-least, only-nothing}
+use Rattle.combining.proofs.Factors.{one-block, only-least, only-nothing}
 use Rattle.generator_check.proofs.check_generator.Statement.{statement}
 use Rattle.generator_check.proofs.check_generator.Tie as tie
 

@@ -9,9 +9,9 @@ use lib.Dec.{lit≤}
 use lib.ListN.{length}
 use Rattle.galois.proofs.Fields.{size-positive}
 use borrow.Author.Needs.{needs}
-use Rattle.generator_check.specs.Combining.{combinationCode}
-use Rattle.generator_check.specs.Marks.{NewCodes}
-use Rattle.generator_check.proofs.Marks.{new-none, new-more}
+use Rattle.combining.specs.Combining.{combinationCode}
+use Rattle.combining.specs.Marks.{NewCodes}
+use Rattle.combining.proofs.Marks.{new-none, new-more}
 use Rattle.generator_check.proofs.codes_are_new.Statement.{statement}
 use Rattle.generator_check.proofs.codes_are_new.Tie as tie
 

@@ -10,8 +10,8 @@ use lib.ListN.{length}
 use Rattle.finite.specs.Digits.{horner}
 use Rattle.finite.proofs.Fits.{product-fits, run-more, run-end}
 use borrow.Author.Needs.{needs}
-use Rattle.generator_check.specs.Combining.{noBlock, rowCombination, combinationCode}
-use Rattle.generator_check.proofs.Combinings.{block-elements}
+use Rattle.combining.specs.Combining.{noBlock, rowCombination, combinationCode}
+use Rattle.combining.proofs.Combinings.{block-elements}
 use Rattle.generator_check.proofs.combination_code.Statement.{statement}
 use Rattle.generator_check.proofs.combination_code.Tie as tie
 

@@ -6,8 +6,8 @@ use native.Mathlib.Nat.{le-refl, le-antisymm, lt-trans, mod-lt}
 use native.Mathlib.Omega.{arith}
 use borrow.Author.Needs.{needs}
 use Rattle.galois.proofs.Fields.{size-positive}
-use Rattle.generator_check.specs.Combining.{combined}
-use Rattle.generator_check.proofs.Combinings.{combined-none, combined-more, sum-below, product-below}
+use Rattle.combining.specs.Combining.{combined}
+use Rattle.combining.proofs.Combinings.{combined-none, combined-more, sum-below, product-below}
 use Rattle.generator_check.proofs.combine.Statement.{statement}
 use Rattle.generator_check.proofs.combine.Tie as tie
 

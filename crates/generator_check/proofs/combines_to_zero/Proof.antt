@@ -9,8 +9,8 @@ use denote.Ref.{now}
 use lib.ListN.{length}
 use Rattle.finite.proofs.Fits.{run-more, run-end}
 use borrow.Author.Needs.{needs}
-use Rattle.generator_check.specs.Combining.{rowCombination}
-use Rattle.generator_check.proofs.Combinings.{block-elements, rows-combine, row-fails}
+use Rattle.combining.specs.Combining.{rowCombination}
+use Rattle.combining.proofs.Combinings.{block-elements, rows-combine, row-fails}
 use Rattle.generator_check.proofs.combines_to_zero.Statement.{statement}
 use Rattle.generator_check.proofs.combines_to_zero.Tie as tie
 

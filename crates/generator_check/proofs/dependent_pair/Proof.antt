@@ -8,7 +8,7 @@ use Rattle.galois.specs.Arithmetic.{fieldSum, fieldProduct}
 use Rattle.counting.specs.Generator.{generatorOf}
 use Rattle.counting.specs.GeneratorVerdict.{pairDependence, generatorFinding}
 use borrow.Author.Needs.{needs}
-use Rattle.generator_check.proofs.Factors.{pair-blocks, pair-least, pair-nothing}
+use Rattle.combining.proofs.Factors.{pair-blocks, pair-least, pair-nothing}
 use Rattle.generator_check.proofs.dependent_pair.Statement.{statement}
 use Rattle.generator_check.proofs.dependent_pair.Tie as tie
 

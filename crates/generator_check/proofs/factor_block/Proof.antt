@@ -2,7 +2,7 @@
 -- Assumes nothing.
 use native.Mathlib.Omega.{arith}
 use borrow.Author.Needs.{needs}
-use Rattle.generator_check.specs.Combining.{factorBlock}
+use Rattle.combining.specs.Combining.{factorBlock}
 use Rattle.generator_check.proofs.factor_block.Statement.{statement}
 use Rattle.generator_check.proofs.factor_block.Tie as tie
 

@@ -12,8 +12,8 @@ use Rattle.galois.specs.Arithmetic.{fieldSum, fieldProduct}
 use Rattle.galois.proofs.Fields.{size-positive}
 use Rattle.counting.specs.GeneratorVerdict.{combinesToZero}
 use borrow.Author.Needs.{needs}
-use Rattle.generator_check.specs.Combining.{asDependence, gridOf, blockColumns}
-use Rattle.generator_check.proofs.Combinings.{dependence-none, dependence-at, lists-many}
+use Rattle.combining.specs.Combining.{asDependence, gridOf, blockColumns}
+use Rattle.combining.proofs.Combinings.{dependence-none, dependence-at, lists-many}
 use Rattle.generator_check.proofs.least_dependence.Statement.{statement}
 use Rattle.generator_check.proofs.least_dependence.Tie as tie
 

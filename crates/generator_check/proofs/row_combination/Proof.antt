@@ -2,7 +2,7 @@
 -- Assumes nothing.
 use Rattle.galois.proofs.Fields.{size-positive}
 use borrow.Author.Needs.{needs}
-use Rattle.generator_check.proofs.Combinings.{combined-below, row-combined}
+use Rattle.combining.proofs.Combinings.{combined-below, row-combined}
 use Rattle.generator_check.proofs.row_combination.Statement.{statement}
 use Rattle.generator_check.proofs.row_combination.Tie as tie
 

@@ -11,8 +11,8 @@ use borrow.Author.Count.{below-more}
 use lib.ListN.{length, getD, set}
 use lib.Seq.{getD-set-same, getD-set-other}
 use Rattle.finite.proofs.Firsts.{between-more}
-use Rattle.generator_check.specs.Marks.{Marked, NewCodes}
-use Rattle.generator_check.proofs.Distinct.{DistinctCodes}
+use Rattle.combining.specs.Marks.{Marked, NewCodes}
+use Rattle.combining.proofs.Distinct.{DistinctCodes}
 
 -- ---- one mark
 

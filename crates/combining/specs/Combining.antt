@@ -10,10 +10,10 @@ use Rattle.finite.specs.Lists.{from}
 use Rattle.galois.specs.Arithmetic.{fieldSize, fieldSum, fieldProduct}
 use Rattle.galois.specs.Combination.{combination}
 use Rattle.counting.specs.Generator.{Generator}
-use Rattle.generator_check.specs.declared.Block.{Block}
-use Rattle.generator_check.specs.declared.Combining.{Combining}
-use Rattle.generator_check.specs.declared.Dependence.{Dependence}
-use Rattle.generator_check.specs.declared.Dependence.the-variants.{Nothing, Least}
+use Rattle.combining.specs.declared.Block.{Block}
+use Rattle.combining.specs.declared.Combining.{Combining}
+use Rattle.combining.specs.declared.Dependence.{Dependence}
+use Rattle.combining.specs.declared.Dependence.the-variants.{Nothing, Least}
 
 -- coefficients times elements, summed onto a combination that comes after them
 unfoldable pub combinationOnto : (plus times : ℕ → ℕ → ℕ) → List ℕ → List ℕ → ℕ → ℕ

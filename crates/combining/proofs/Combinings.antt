@@ -24,9 +24,9 @@ use Rattle.galois.specs.Combination.{combination}
 use Rattle.galois.proofs.Fields.{field, size-positive}
 use Rattle.counting.specs.Generator.{Generator}
 use Rattle.counting.specs.GeneratorVerdict.{combinesToZero, dependence}
-use Rattle.generator_check.specs.Combining.{combinationOnto, elements, combined, ElementsAt, BlocksIn, gridOf, blockColumns, rowCombination}
-use Rattle.generator_check.specs.declared.Block.{Block}
-use Rattle.generator_check.specs.declared.Combining.{Combining}
+use Rattle.combining.specs.Combining.{combinationOnto, elements, combined, ElementsAt, BlocksIn, gridOf, blockColumns, rowCombination}
+use Rattle.combining.specs.declared.Block.{Block}
+use Rattle.combining.specs.declared.Combining.{Combining}
 
 -- ---- elements of the field
 pub sum-below : (s : ℕ) → T (fieldSize s) → {a b : ℕ} → a < s → b < s → fieldSum s a b < s

@@ -15,9 +15,9 @@ use Rattle.galois.specs.Arithmetic.{fieldSum, fieldProduct}
 use Rattle.counting.specs.Checkable.{CheckableGenerator}
 use Rattle.counting.specs.Generator.{width, generatorOf, ElementsInRange, factorColumns, columnsOf}
 use Rattle.counting.specs.GeneratorVerdict.{combinesToZero, dependence, pairDependence, onlyDependence}
-use Rattle.generator_check.specs.Combining.{gridOf, blockColumns, factorBlock, noBlock, BlocksIn, asDependence}
-use Rattle.generator_check.specs.declared.Block.{Block}
-use Rattle.generator_check.specs.declared.Dependence.the-variants.{Nothing, Least}
+use Rattle.combining.specs.Combining.{gridOf, blockColumns, factorBlock, noBlock, BlocksIn, asDependence}
+use Rattle.combining.specs.declared.Block.{Block}
+use Rattle.combining.specs.declared.Dependence.the-variants.{Nothing, Least}
 
 -- ---- what the enum says of the search
 least-not-nothing : (v : ℕ) → Least v ≡ Nothing → ⊥

@@ -26,7 +26,7 @@ use Rattle.counting.specs.Generator.{Generator, generatorOf, width, ElementsInR
 use Rattle.counting.specs.GeneratorVerdict.{generatorVerdict}
 use Rattle.counting.specs.declared.verdict.GeneratorFinding.the-variants.{Passes}
 use Rattle.counting.proofs.GeneratorVerdicts.{no-columns, generator-passes}
-use Rattle.generator_check.specs.Combining.{blockColumns, factorBlock, rowCombination, combinationCode}
+use Rattle.combining.specs.Combining.{blockColumns, factorBlock, rowCombination, combinationCode}
 
 -- ---- equal combinations have equal codes
 
