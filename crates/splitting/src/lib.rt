@@ -15,8 +15,6 @@ ghost use Rattle.layout.specs.Step.{Stands, Ready, laterIn, Left};
 ghost use Rattle.splitting.specs.Splitting.{giveWay, splitRun, splitRuns};
 use buffers::put_bytes;
 use ingredients::named::NamedTable;
-use ingredients::named::column_count;
-use ingredients::named::run_count;
 use ingredients::named::table_named;
 use layout::Size;
 use settling::settle;
@@ -24,6 +22,8 @@ use sheets::answer::Answer;
 use sheets::answer::Refusal;
 use table_putting::put_level_counts;
 use table_putting::put_run;
+use table_reading::column_count;
+use table_reading::run_count;
 
 // Question 6, from the level counts of the sheet: is the column on it, and has the table as many runs as the column has levels?
 fn parts_fit(list: &[u16], named: NamedTable, c: usize, levels: &[u8]) -> bool

@@ -22,12 +22,12 @@ use crate::matrices::serve;
 use crate::sheet::build;
 use crate::sheet::summed_columns;
 use ingredients::named::NamedTable;
-use ingredients::named::column_count;
-use ingredients::named::run_count;
 use ingredients::named::table_named;
 use layout::Size;
 use sheets::answer::Answer;
 use sheets::answer::Refusal;
+use table_reading::column_count;
+use table_reading::run_count;
 
 // Whether a number named no table.
 fn is_missing(table: NamedTable) -> bool

@@ -4,13 +4,13 @@ ghost use lib.ListN.{length};
 ghost use Rattle.layout.specs.Bytes.{Zeros};
 ghost use Rattle.layout.specs.Step.{Readable, Stands, firstIn, Left};
 use ingredients::named::NamedTable;
-use ingredients::named::column_count;
-use ingredients::named::run_count;
 use ingredients::named::table_named;
 use sheets::answer::Answer;
 use sheets::answer::Refusal;
 use table_putting::put_level_counts;
 use table_putting::put_runs;
+use table_reading::column_count;
+use table_reading::run_count;
 
 // A table that is named is never too large: it keeps the limits of the order (question 2).
 pub fn take(list: &[u16], at: usize, table: &mut [u8], levels: &mut [u8]) -> Answer

@@ -1,13 +1,13 @@
--- `ingredients::named::level` meets its contract: the levels of a table of the list stand run by run within it, in bytes.
+-- `table_reading::level` meets its contract: the levels of a table of the list stand run by run within it, in bytes.
 -- Assumes nothing.
 use Prim.Native.Nat.{_+_, _*_, _<_}
 use lib.ListN.{length}
 use denote.Ref.{now}
 use Rattle.ingredients.specs.Named.{tableIn, Legible}
 use Rattle.ingredients.proofs.OwnTables.{cell-place, cell-byte, cell-read}
 use borrow.Author.Needs.{needs}
-use Rattle.ingredients.proofs.named.level.Statement.{statement}
-use Rattle.ingredients.proofs.named.level.Tie as tie
+use Rattle.table_reading.proofs.level.Statement.{statement}
+use Rattle.table_reading.proofs.level.Tie as tie
 
 enum-known-table : tie.Need-enum-known-table
 enum-known-table c = search needs

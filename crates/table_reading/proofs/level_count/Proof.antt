@@ -1,13 +1,13 @@
--- `ingredients::named::level_count` meets its contract: the level counts of a table of the list stand one after the other within it, in bytes.
+-- `table_reading::level_count` meets its contract: the level counts of a table of the list stand one after the other within it, in bytes.
 -- Assumes nothing.
 use Prim.Native.Nat.{_+_, _<_}
 use lib.ListN.{length}
 use denote.Ref.{now}
 use Rattle.ingredients.specs.Named.{tableIn, Legible}
 use Rattle.ingredients.proofs.OwnTables.{level-place, level-byte, level-read}
 use borrow.Author.Needs.{needs}
-use Rattle.ingredients.proofs.named.level_count.Statement.{statement}
-use Rattle.ingredients.proofs.named.level_count.Tie as tie
+use Rattle.table_reading.proofs.level_count.Statement.{statement}
+use Rattle.table_reading.proofs.level_count.Tie as tie
 
 enum-known-table : tie.Need-enum-known-table
 enum-known-table c = search needs
