@@ -20,8 +20,8 @@ use Rattle.sheets.specs.declared.answer.Refusal.{Refusal}
 use Rattle.sheets.specs.declared.answer.Refusal.the-variants.{Unreadable, EntryOutOfRange}
 use Rattle.sheets.proofs.OrderQuestions.{reads-whole, ingredients-decide}
 use Rattle.sheets.proofs.Filled.{outcome-read, asked}
-use Rattle.passing.specs.Passing.{passingOf, passingIn}
-use Rattle.passing.specs.declared.Passing.the-variants.{AllPass, Refused}
+use Rattle.question_4.specs.Passing.{passingOf, passingIn}
+use Rattle.question_4.specs.declared.Passing.the-variants.{AllPass, Refused}
 use Rattle.layout.specs.Step.{Readable}
 use Rattle.layout.proofs.Operands.{in-order}
 use Rattle.carrying.specs.Carrying.{Passing, allIn}

@@ -13,7 +13,7 @@ ghost use Rattle.sheets.specs.Outcome.{tableRefusal, matrixRefusal, generatorRe
 ghost use Rattle.ingredients.specs.Named.{tableIn, matrixIn, generatorIn};
 ghost use Rattle.ingredients.specs.declared.named.NamedTable.the-variants.{Own};
 ghost use Rattle.ingredients.specs.Standing.{TableStands, MatrixStands, GeneratorStands};
-ghost use Rattle.passing.specs.Passing.{Room, Copyable, passingOf, refusalAt, passingIn};
+ghost use Rattle.question_4.specs.Passing.{Room, Copyable, passingOf, refusalAt, passingIn};
 use buffers::clear;
 use buffers::put_numbers;
 use counting::verdict::GeneratorFinding;
@@ -26,14 +26,9 @@ use matrix_check::check_matrix;
 use order::Located;
 use places::ingredient_at;
 use places::ingredient_count;
+use question_4::Passing;
 use sheets::answer::Refusal;
 use table_check::check_table;
-
-// Whether all pass; if not, the refusal has the first failure of the first that does not.
-pub enum Passing {
-    AllPass,
-    Refused(Refusal),
-}
 
 // The first ingredient, used or not, that does not pass.
 pub fn first_failing(list: &[u16], cells: &mut [u8], numbers: &mut [u8]) -> Passing

@@ -3,7 +3,7 @@
 use mathlib.Core.Path.{sym, _∙_, ap}
 use lib.ListN.{replicate}
 use lib.Seq.{length-take-le}
-use Rattle.passing.proofs.Copies.{put-zeros}
+use Rattle.question_4.proofs.Copies.{put-zeros}
 use borrow.Author.Needs.{needs}
 use Rattle.passing.proofs.clear_front.Statement.{statement}
 use Rattle.passing.proofs.clear_front.Tie as tie

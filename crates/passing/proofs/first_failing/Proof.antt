@@ -8,8 +8,8 @@ use denote.Ref.{now}
 use Rattle.finite.specs.First.{_orElse_}
 use Rattle.order.specs.Grammar.{readOrder}
 use Rattle.places.specs.Places.{ingredientCount}
-use Rattle.passing.specs.Passing.{passingOf, refusalAt, passingIn}
-use Rattle.passing.proofs.Questions.{readable, restOf, rest-all, rest-next, rest-none, failing-first, passing-first}
+use Rattle.question_4.specs.Passing.{passingOf, refusalAt, passingIn}
+use Rattle.question_4.proofs.Questions.{readable, restOf, rest-all, rest-next, rest-none, failing-first, passing-first}
 use borrow.Author.Needs.{needs}
 use Rattle.passing.proofs.first_failing.Statement.{statement}
 use Rattle.passing.proofs.first_failing.Tie as tie

@@ -1,8 +1,8 @@
 -- `passing::generator_finding` meets its contract: what is lent to the check are the widths and the entries of the list.
 -- Assumes nothing.
 use Rattle.buffers.proofs.Puts.{put-part, put-front}
-use Rattle.passing.proofs.Copies.{put-undone}
-use Rattle.passing.proofs.Checking.{widths-copyable, generator-copyable, generator-checkable}
+use Rattle.question_4.proofs.Copies.{put-undone}
+use Rattle.question_4.proofs.Checking.{widths-copyable, generator-copyable, generator-checkable}
 use borrow.Author.Needs.{needs}
 use Rattle.passing.proofs.generator_finding.Statement.{statement}
 use Rattle.passing.proofs.generator_finding.Tie as tie

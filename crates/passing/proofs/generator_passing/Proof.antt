@@ -1,7 +1,7 @@
 -- `passing::generator_passing` meets its contract: a fault becomes the refusal that 01 has for it.
 -- Assumes nothing.
 use Rattle.sheets.specs.Outcome.{generatorRefusal}
-use Rattle.passing.specs.Passing.{passingOf}
+use Rattle.question_4.specs.Passing.{passingOf}
 use borrow.Author.Needs.{needs}
 use Rattle.passing.proofs.generator_passing.Statement.{statement}
 use Rattle.passing.proofs.generator_passing.Tie as tie

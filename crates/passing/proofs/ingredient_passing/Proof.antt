@@ -3,7 +3,7 @@
 use mathlib.Core.Path.{refl, sym, _∙_}
 use denote.Ref.{now}
 use Rattle.ingredients.proofs.Standing.{table-stands, matrix-stands, generator-stands}
-use Rattle.passing.proofs.Questions.{readable, table-answer, matrix-answer, generator-answer, missing-answer}
+use Rattle.question_4.proofs.Questions.{readable, table-answer, matrix-answer, generator-answer, missing-answer}
 use borrow.Author.Needs.{needs}
 use Rattle.passing.proofs.ingredient_passing.Statement.{statement}
 use Rattle.passing.proofs.ingredient_passing.Tie as tie

@@ -1,8 +1,8 @@
 -- `passing::matrix_finding` meets its contract: what is lent to the check are the entries of the list.
 -- Assumes nothing.
 use Rattle.buffers.proofs.Puts.{put-part, put-front}
-use Rattle.passing.proofs.Copies.{put-undone}
-use Rattle.passing.proofs.Checking.{matrix-copyable, matrix-checkable}
+use Rattle.question_4.proofs.Copies.{put-undone}
+use Rattle.question_4.proofs.Checking.{matrix-copyable, matrix-checkable}
 use borrow.Author.Needs.{needs}
 use Rattle.passing.proofs.matrix_finding.Statement.{statement}
 use Rattle.passing.proofs.matrix_finding.Tie as tie

@@ -1,7 +1,7 @@
 -- `passing::matrix_passing` meets its contract: a fault becomes the refusal that 01 has for it.
 -- Assumes nothing.
 use Rattle.sheets.specs.Outcome.{matrixRefusal}
-use Rattle.passing.specs.Passing.{passingOf}
+use Rattle.question_4.specs.Passing.{passingOf}
 use borrow.Author.Needs.{needs}
 use Rattle.passing.proofs.matrix_passing.Statement.{statement}
 use Rattle.passing.proofs.matrix_passing.Tie as tie

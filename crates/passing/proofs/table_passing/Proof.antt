@@ -1,7 +1,7 @@
 -- `passing::table_passing` meets its contract: each fault becomes the refusal that 01 has for it.
 -- Assumes nothing.
 use Rattle.sheets.specs.Outcome.{tableRefusal}
-use Rattle.passing.specs.Passing.{passingOf}
+use Rattle.question_4.specs.Passing.{passingOf}
 use borrow.Author.Needs.{needs}
 use Rattle.passing.proofs.table_passing.Statement.{statement}
 use Rattle.passing.proofs.table_passing.Tie as tie

@@ -2,8 +2,8 @@
 -- Assumes nothing.
 use Rattle.buffers.proofs.Puts.{put-part, put-front}
 use Rattle.ingredients.specs.Named.{tableIn}
-use Rattle.passing.proofs.Copies.{put-undone}
-use Rattle.passing.proofs.Checking.{levels-copyable, cells-copyable, table-checkable}
+use Rattle.question_4.proofs.Copies.{put-undone}
+use Rattle.question_4.proofs.Checking.{levels-copyable, cells-copyable, table-checkable}
 use borrow.Author.Needs.{needs}
 use Rattle.passing.proofs.table_verdict.Statement.{statement}
 use Rattle.passing.proofs.table_verdict.Tie as tie

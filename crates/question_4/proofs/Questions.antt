@@ -26,10 +26,10 @@ use Rattle.places.proofs.Stands.{ingredient-described}
 use Rattle.sheets.specs.Outcome.{tableRefusal, matrixRefusal, generatorRefusal, ingredientRefusal, ingredientsRefusal}
 use Rattle.sheets.specs.declared.answer.Refusal.{Refusal}
 use Rattle.ingredients.specs.Named.{tableIn, matrixIn, generatorIn}
-use Rattle.passing.specs.Passing.{passingOf, refusalAt, passingIn}
+use Rattle.question_4.specs.Passing.{passingOf, refusalAt, passingIn}
 use Rattle.ingredients.specs.declared.named.NamedTable.the-variants.{Own}
-use Rattle.passing.specs.declared.Passing.{Passing}
-use Rattle.passing.specs.declared.Passing.the-variants.{AllPass, Refused}
+use Rattle.question_4.specs.declared.Passing.{Passing}
+use Rattle.question_4.specs.declared.Passing.the-variants.{AllPass, Refused}
 
 -- ---- a list whose entries are in range reads as an order
 

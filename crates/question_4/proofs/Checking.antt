@@ -12,7 +12,7 @@ use Rattle.order.proofs.Powers.{width-small}
 use Rattle.sheets.proofs.Ingredients.{field-size}
 use Rattle.ingredients.specs.Named.{tableIn, Legible}
 use Rattle.ingredients.specs.Standing.{TableStands, MatrixStands, GeneratorStands}
-use Rattle.passing.specs.Passing.{Copyable}
+use Rattle.question_4.specs.Passing.{Copyable}
 use Rattle.ingredients.proofs.Parts.{part-length, part-at, part-bytes}
 use Rattle.ingredients.proofs.Standing.{matrix-bytes, matrix-in-range, generator-bytes, generator-row, elements-in-range}
 use Rattle.ingredients.proofs.NamedLaws.{own-legible, own-limits}

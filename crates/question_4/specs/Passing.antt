@@ -11,8 +11,8 @@ use Rattle.order.specs.Reader.{Parsed, value, refused as unread}
 use Rattle.order.specs.Grammar.{readOrder}
 use Rattle.sheets.specs.Outcome.{ingredientRefusal, ingredientsRefusal}
 use Rattle.sheets.specs.declared.answer.Refusal.{Refusal}
-use Rattle.passing.specs.declared.Passing.{Passing}
-use Rattle.passing.specs.declared.Passing.the-variants.{AllPass, Refused}
+use Rattle.question_4.specs.declared.Passing.{Passing}
+use Rattle.question_4.specs.declared.Passing.the-variants.{AllPass, Refused}
 
 -- room for the numbers of any ingredient: as many bytes as 01's question 1 has of a scratch and of a level list, all of them zeros
 pub record Room (cells numbers : List ℕ) : Type 0 where
