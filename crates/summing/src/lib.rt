@@ -1,86 +1,24 @@
 // Step 3, SUM r, d1 .. dr, k: the questions in turn, and then the sheet.
-mod matrices; // matrices.rt: the matrices, by the level counts that they serve
-mod sheet; // sheet.rt: the sheet that the step leaves
-
-ghost use mathlib.Core.Path.{_≡_};
-ghost use mathlib.Core.Bool.{true};
 ghost use Prim.Native.Nat.{_≤_, _<_};
-ghost use lib.Dec.{eqb};
 ghost use lib.ListN.{length, getD};
-ghost use Rattle.finite.specs.Lists.{AllBelow};
 ghost use Rattle.counting.specs.Table.{columns as columnsOf};
 ghost use Rattle.ingredients.specs.Named.{tableIn, someTable, Legible};
-ghost use Rattle.sheets.specs.Sum.{adjoinedTable};
 ghost use Rattle.sheets.specs.Steps.{sum as SUM, sized, operate};
-ghost use Rattle.layout.specs.Bytes.{zeros, Zeros, sheetIn};
-ghost use Rattle.layout.specs.Step.{Readable, Stands, Ready, laterIn, Left};
-ghost use Rattle.sum_bytes.specs.Summing.{matrixAt, matricesAt, partsFit, EntriesStand, Serves, nextSheet, isMissing, Adjoins};
-use crate::matrices::all_name_matrices;
-use crate::matrices::all_served;
-use crate::matrices::matrix_named;
-use crate::matrices::serve;
-use crate::sheet::build;
-use crate::sheet::summed_columns;
+ghost use Rattle.layout.specs.Bytes.{Zeros, sheetIn};
+ghost use Rattle.layout.specs.Step.{Stands, Ready, laterIn, Left};
+ghost use Rattle.sum_bytes.specs.Summing.{matrixAt, matricesAt, EntriesStand, nextSheet, Adjoins};
 use ingredients::named::NamedTable;
 use ingredients::named::table_named;
 use layout::Size;
 use sheets::answer::Answer;
 use sheets::answer::Refusal;
+use sum_questions::all_name_matrices;
+use sum_questions::is_missing;
+use sum_questions::matrix_named;
+use sum_questions::parts_fit;
+use summed_sheet::build;
+use summed_sheet::summed_columns;
 use table_reading::column_count;
-use table_reading::run_count;
-
-// Whether a number named no table.
-fn is_missing(table: NamedTable) -> bool
-    ensures { λ r. ⌜ r ≡ isMissing table ⌝ }
-{
-    match table {
-        NamedTable::Own {
-            rows: _,
-            columns: _,
-            levels_at: _,
-            entries_at: _,
-        } => false,
-        NamedTable::House { number: _ } => false,
-        NamedTable::Missing => true,
-    }
-}
-
-// Question 6, of k alone: whether it has a run for each row of the matrices, or there is none.
-fn adjoins(list: &[u16], k: NamedTable, rows: usize) -> bool
-    requires { ⌜ Legible (now list) k ⌝ }
-    ensures { λ r. ⌜ r ≡ eqb (adjoinedTable rows (someTable (now (list .entry)) k) .runs) rows ⌝ }
-{
-    if is_missing(k) {
-        return true;
-    }
-    run_count(list, k) == rows
-}
-
-// Question 6: do the parts fit? The matrices are entered into the arrays on the way.
-fn parts_fit(
-    list: &[u16],
-    ds: &[u16],
-    rows: usize,
-    k: NamedTable,
-    levels: &[u8],
-    entries: &mut [u16],
-    widths: &mut [u8],
-) -> bool
-    requires { ⌜ Readable (now list) × (0 < rows) × Legible (now list) k ⌝ }
-    requires { ⌜ AllBelow 65 (now levels) ⌝ }
-    requires { ⌜ (now entries ≡ zeros 65) × (now widths ≡ zeros 65) ⌝ }
-    ensures { λ r. ⌜ r ≡ partsFit rows (matricesAt (now (list .entry)) (now (ds .entry))) (adjoinedTable rows (someTable (now (list .entry)) k)) (now (levels .entry)) ⌝ }
-    ensures { λ r. ⌜ (r ≡ true
-        → Serves (now (list .entry)) (matricesAt (now (list .entry)) (now (ds .entry))) rows (now (entries .exit)) (now (widths .exit))) ⌝ }
-{
-    if !serve(list, ds, rows, entries, widths) {
-        return false;
-    }
-    if !all_served(levels, widths) {
-        return false;
-    }
-    adjoins(list, k, rows)
-}
 
 // Question 8, and then the sheet: is it at most 512 runs and 128 columns?
 fn sized_sum(
