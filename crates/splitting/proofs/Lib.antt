@@ -1,3 +1,2 @@
-pub mod Bytes
+pub mod Answers
 pub mod Outcome
-pub mod Sheet

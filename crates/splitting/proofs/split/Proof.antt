@@ -16,7 +16,8 @@ use Rattle.layout.specs.Bytes.{sheetIn}
 use Rattle.layout.specs.Step.{Left}
 use Rattle.layout.proofs.Operands.{some-named}
 use Rattle.layout.proofs.Sheets.{ready-few}
-use Rattle.splitting.proofs.Sheet.{on-sheet, next-columns, filled-answer, large-answer, next-small}
+use Rattle.split_sheet.proofs.Sheet.{on-sheet, next-columns}
+use Rattle.splitting.proofs.Answers.{filled-answer, large-answer, next-small}
 use Rattle.splitting.proofs.Outcome.{operands-within, column-from-one, legible, small, none-named, unfit, over-large, fills}
 use Rattle.splitting.proofs.split.Statement.{statement}
 use Rattle.splitting.proofs.split.Tie as tie

@@ -15,7 +15,7 @@ use Rattle.sheets.specs.Sheet.{fromSources}
 use Rattle.sheets.specs.Split.{SplitSource, kept, part, splitPlace, splitSources, splitLevels, splitValue, splitStep}
 use Rattle.sheets.proofs.Lists.{map-getD}
 use Rattle.layout.specs.Bytes.{runOf, runsOf, sheetIn}
-use Rattle.splitting.specs.Splitting.{giveWay, splitRun, runIn, splitRuns}
+use Rattle.split_sheet.specs.Splitting.{giveWay, splitRun, runIn, splitRuns}
 use Rattle.layout.specs.declared.Size.{Size}
 use Rattle.layout.proofs.Bytes.{flatMap-same, runs-sources, run-length}
 use Rattle.layout.proofs.Sheets.{sheet-columns, sheet-cell}

@@ -1,4 +1,4 @@
--- `splitting::put_split_levels` meets its contract: three pieces, one after the other.
+-- `split_sheet::put_split_levels` meets its contract: three pieces, one after the other.
 use mathlib.Core.Path.{sym}
 use Prim.Native.Nat.{_+_, _≤_}
 use native.Mathlib.Omega.{arith}
@@ -6,10 +6,10 @@ use borrow.Author.Needs.{needs}
 use lib.ListN.{length, length-drop}
 use lib.Seq.{length-take-le}
 use Rattle.buffers.proofs.Puts.{put-join, put-length}
-use Rattle.splitting.specs.Splitting.{giveWay}
-use Rattle.splitting.proofs.Bytes.{part-rest}
-use Rattle.splitting.proofs.put_split_levels.Statement.{statement}
-use Rattle.splitting.proofs.put_split_levels.Tie as tie
+use Rattle.split_sheet.specs.Splitting.{giveWay}
+use Rattle.split_sheet.proofs.Bytes.{part-rest}
+use Rattle.split_sheet.proofs.put_split_levels.Statement.{statement}
+use Rattle.split_sheet.proofs.put_split_levels.Tie as tie
 
 slice-aggregate-put-bytes : tie.Need-slice-aggregate-put-bytes
 slice-aggregate-put-bytes c =

@@ -1,4 +1,4 @@
--- `splitting::put_split_runs` meets its contract. The invariant: the first runs are put, up to `place`, and the next one starts at `start`.
+-- `split_sheet::put_split_runs` meets its contract. The invariant: the first runs are put, up to `place`, and the next one starts at `start`.
 use mathlib.Core.Path.{_≡_}
 use mathlib.Core.List.{flatMap}
 use Prim.Native.Nat.{_+_, _-_, _*_, _≤_}
@@ -11,11 +11,11 @@ use Rattle.finite.specs.Lists.{from}
 use Rattle.buffers.specs.Put.{Put}
 use Rattle.buffers.proofs.Puts.{put-length}
 use Rattle.ingredients.specs.Named.{tableIn}
-use Rattle.splitting.specs.Splitting.{splitRun, runIn, splitRuns}
+use Rattle.split_sheet.specs.Splitting.{splitRun, runIn, splitRuns}
 use Rattle.layout.proofs.Rows.{pieces-none, pieces-next, pieces-room}
-use Rattle.splitting.proofs.Bytes.{run-part, run-end, run-in-length, run-in-at, split-run-length}
-use Rattle.splitting.proofs.put_split_runs.Statement.{statement}
-use Rattle.splitting.proofs.put_split_runs.Tie as tie
+use Rattle.split_sheet.proofs.Bytes.{run-part, run-end, run-in-length, run-in-at, split-run-length}
+use Rattle.split_sheet.proofs.put_split_runs.Statement.{statement}
+use Rattle.split_sheet.proofs.put_split_runs.Tie as tie
 
 abbrev Inv-loop : tie.InvT-loop
 Inv-loop list named c table buf₀ runs width place₀ start₀ run₀ buf place start run =

@@ -1,4 +1,4 @@
--- `splitting::split_column` meets its contract: the next sheet is built in the scratch, its level counts beside it, and both are settled.
+-- `split_sheet::split_column` meets its contract: the next sheet is built in the scratch, its level counts beside it, and both are settled.
 use mathlib.Core.Path.{sym}
 use native.Mathlib.Nat.{le-trans}
 use borrow.Author.Needs.{needs}
@@ -6,9 +6,9 @@ use lib.Seq.{length-take-le}
 use Rattle.buffers.proofs.Puts.{put-part}
 use Rattle.ingredients.specs.Named.{tableIn}
 use Rattle.layout.proofs.Sheets.{ready-few, ready-used, ready-after, ready-levels-after}
-use Rattle.splitting.proofs.Sheet.{on-sheet, row-there, columns-room, cells-room, built-room, built-within, count-room, scratch-after, settled, take-few}
-use Rattle.splitting.proofs.split_column.Statement.{statement}
-use Rattle.splitting.proofs.split_column.Tie as tie
+use Rattle.split_sheet.proofs.Sheet.{on-sheet, row-there, columns-room, cells-room, built-room, built-within, count-room, scratch-after, settled, take-few}
+use Rattle.split_sheet.proofs.split_column.Statement.{statement}
+use Rattle.split_sheet.proofs.split_column.Tie as tie
 
 slice-reshare-prefix-put-split-levels : tie.Need-slice-reshare-prefix-put-split-levels
 slice-reshare-prefix-put-split-levels c = search needs

@@ -11,16 +11,14 @@ use Rattle.buffers.proofs.Puts.{put-front, put-length}
 use Rattle.counting.specs.Table.{Table, columns, tableOf, InRange}
 use Rattle.sheets.specs.Sheet.{SmallEnough, fromSources}
 use Rattle.sheets.specs.Split.{SplitFits, splitStep}
-use Rattle.sheets.specs.declared.answer.Refusal.the-variants.{TooLarge}
-use Rattle.sheets.specs.declared.answer.Answer.the-variants.{Filled, Refused}
 use Rattle.sheets.proofs.Split.{split-columns}
 use Rattle.layout.specs.Bytes.{runsOf, padded, Holds, Zeros, sheetIn}
 use Rattle.layout.specs.Step.{Ready}
-use Rattle.splitting.specs.Splitting.{giveWay, splitRuns}
+use Rattle.split_sheet.specs.Splitting.{giveWay, splitRuns}
 use Rattle.layout.specs.declared.Size.{Size}
 use Rattle.layout.proofs.Bytes.{runs-length}
 use Rattle.layout.proofs.Sheets.{padded-length, sheet-cell, cells-few, built-after, built-holds, ready-few, ready-runs, ready-columns, ready-used}
-use Rattle.splitting.proofs.Bytes.{split-levels, split-runs}
+use Rattle.split_sheet.proofs.Bytes.{split-levels, split-runs}
 
 pub take-few : (n : ℕ) (xs : List ℕ) → length (take n xs) ≤ n
 take-few n xs = omega (arith, length-take n xs)
@@ -31,19 +29,6 @@ module _ {list : List ℕ} {size : Size} {table levels scratch : List ℕ} (read
 
   pub next-columns : columns (splitStep c U (sheetIn table levels size)) ≡ size .columns - 1 + columns U
   next-columns = let many = split-columns c U (sheetIn table levels size) fits in omega (arith, on-sheet, ready-columns ready)
-
-  -- the sizes that are answered
-  module _ {m : ℕ} (counted : m ≡ columns U) where
-    answered-columns : size .columns - 1 + m ≡ columns (splitStep c U (sheetIn table levels size))
-    answered-columns = ap (λ (k : ℕ). size .columns - 1 + k) counted ∙ sym next-columns
-
-    pub filled-answer : Filled (size .runs) (size .columns - 1 + m) ≡ Filled (splitStep c U (sheetIn table levels size) .runs) (columns (splitStep c U (sheetIn table levels size)))
-    unfolding splitStep fromSources sheetIn tableOf
-    filled-answer = ap (Filled (size .runs)) answered-columns
-
-    pub large-answer : (n : ℕ) → Refused (TooLarge n (size .runs) (size .columns - 1 + m)) ≡ Refused (TooLarge n (sheetIn table levels size .runs) (columns (splitStep c U (sheetIn table levels size))))
-    unfolding sheetIn tableOf
-    large-answer n = ap (λ (k : ℕ). Refused (TooLarge n (size .runs) k)) answered-columns
 
   pub row-there : (r : ℕ) → r < size .runs → getD table (r * size .columns + c) 0 < U .runs
   unfolding InRange sheetIn tableOf
@@ -56,10 +41,6 @@ module _ {list : List ℕ} {size : Size} {table levels scratch : List ℕ} (read
 
   pub next-runs : runsOf (splitStep c U (sheetIn table levels size)) ≡ splitRuns c U table (size .columns) (size .runs)
   next-runs = split-runs c U table levels size (ready-few ready) (ready-used ready) on-sheet
-
-  pub next-small : size .columns - 1 + columns U ≤ 128 → SmallEnough (splitStep c U (sheetIn table levels size))
-  unfolding splitStep fromSources sheetIn tableOf
-  next-small h = record { runs-most = ready-runs ready; columns-most = rw next-columns h }
 
   module _ (small : SmallEnough (splitStep c U (sheetIn table levels size))) where
     pub columns-room : size .columns - 1 + columns U ≤ 128

@@ -1,4 +1,4 @@
--- `splitting::put_split_run` meets its contract: three pieces, one after the other.
+-- `split_sheet::put_split_run` meets its contract: three pieces, one after the other.
 use mathlib.Core.Path.{sym}
 use Prim.Native.Nat.{_+_, _≤_}
 use native.Mathlib.Omega.{arith}
@@ -7,11 +7,11 @@ use lib.ListN.{length, getD, length-drop}
 use lib.Seq.{length-take-le}
 use Rattle.buffers.proofs.Puts.{put-join, put-length}
 use Rattle.ingredients.specs.Named.{tableIn}
-use Rattle.splitting.specs.Splitting.{giveWay, splitRun}
+use Rattle.split_sheet.specs.Splitting.{giveWay, splitRun}
 use Rattle.layout.proofs.Bytes.{run-length}
-use Rattle.splitting.proofs.Bytes.{part-rest}
-use Rattle.splitting.proofs.put_split_run.Statement.{statement}
-use Rattle.splitting.proofs.put_split_run.Tie as tie
+use Rattle.split_sheet.proofs.Bytes.{part-rest}
+use Rattle.split_sheet.proofs.put_split_run.Statement.{statement}
+use Rattle.split_sheet.proofs.put_split_run.Tie as tie
 
 shared-slice-read-row : tie.Need-shared-slice-read-row
 shared-slice-read-row c = search needs

@@ -1,0 +1,33 @@
+-- The sizes that SPLIT answers, once its parts fit: those of the next sheet, and whether it is small enough.
+-- Assumes nothing.
+use mathlib.Core.Path.{_≡_, sym, _∙_, ap}
+use mathlib.Core.List.{List}
+use Prim.Native.Nat.{ℕ, _+_, _-_, _≤_}
+use Rattle.counting.specs.Table.{Table, columns, tableOf}
+use Rattle.sheets.specs.Sheet.{SmallEnough, fromSources}
+use Rattle.sheets.specs.Split.{SplitFits, splitStep}
+use Rattle.sheets.specs.declared.answer.Refusal.the-variants.{TooLarge}
+use Rattle.sheets.specs.declared.answer.Answer.the-variants.{Filled, Refused}
+use Rattle.layout.specs.Bytes.{sheetIn}
+use Rattle.layout.specs.Step.{Ready}
+use Rattle.layout.specs.declared.Size.{Size}
+use Rattle.layout.proofs.Sheets.{ready-runs}
+use Rattle.split_sheet.proofs.Sheet.{next-columns}
+
+module _ {list : List ℕ} {size : Size} {table levels scratch : List ℕ} (ready : Ready list size table levels scratch) (c : ℕ) (U : Table) (fits : SplitFits c U (sheetIn table levels size)) where
+  -- the sizes that are answered
+  module _ {m : ℕ} (counted : m ≡ columns U) where
+    answered-columns : size .columns - 1 + m ≡ columns (splitStep c U (sheetIn table levels size))
+    answered-columns = ap (λ (k : ℕ). size .columns - 1 + k) counted ∙ sym (next-columns ready c U fits)
+
+    pub filled-answer : Filled (size .runs) (size .columns - 1 + m) ≡ Filled (splitStep c U (sheetIn table levels size) .runs) (columns (splitStep c U (sheetIn table levels size)))
+    unfolding splitStep fromSources sheetIn tableOf
+    filled-answer = ap (Filled (size .runs)) answered-columns
+
+    pub large-answer : (n : ℕ) → Refused (TooLarge n (size .runs) (size .columns - 1 + m)) ≡ Refused (TooLarge n (sheetIn table levels size .runs) (columns (splitStep c U (sheetIn table levels size))))
+    unfolding sheetIn tableOf
+    large-answer n = ap (λ (k : ℕ). Refused (TooLarge n (size .runs) k)) answered-columns
+
+  pub next-small : size .columns - 1 + columns U ≤ 128 → SmallEnough (splitStep c U (sheetIn table levels size))
+  unfolding splitStep fromSources sheetIn tableOf
+  next-small h = record { runs-most = ready-runs ready; columns-most = rw (next-columns ready c U fits) h }
