@@ -19,7 +19,7 @@ pub fn scan_input(list: &mut [u16; 32768]) -> Scanned
     ensures { λ r. ⌜ ScannedInput r (now (list .exit)) ⌝ }
 {
     let mut piece = [0u8; 4096];
-    let mut state = Scan::start();
+    let mut state = scanning::start();
     let mut reads_left = u64::MAX;
     while reads_left > 0 {
         let got = libc::read(STDIN_FILENO, &mut piece);
@@ -34,7 +34,7 @@ pub fn scan_input(list: &mut [u16; 32768]) -> Scanned
         }
         reads_left -= 1;
     }
-    state.finish(list)
+    scanning::finish(state, list)
 }
 
 // What comes after a read that gave these bytes: none end the text, and a word that is refused ends the reading.
@@ -42,9 +42,9 @@ fn after_read(state: Scan, bytes: &[u8], list: &mut [u16; 32768]) -> Next
     ensures { λ r. ⌜ (r, now (list .exit)) ≡ afterRead (state, now (list .entry)) (now (bytes .entry)) ⌝ }
 {
     if bytes.len() == 0 {
-        return Next::Answer(state.finish(list));
+        return Next::Answer(scanning::finish(state, list));
     }
-    let reached = state.piece(bytes, list);
+    let reached = scanning::piece(state, bytes, list);
     match reached {
         Scan::Between { count } => Next::Read(Scan::Between { count }),
         Scan::Inside { count, value } => Next::Read(Scan::Inside { count, value }),

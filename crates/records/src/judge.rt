@@ -20,7 +20,6 @@ use record_texts::Lengths;
 use report::put_refused;
 use sheets::answer::Answer;
 use sheets::answer::Refusal;
-use words::Scan;
 use words::Scanned;
 
 // The numbers of a text.
@@ -29,7 +28,7 @@ fn scan(text: &[u8], list: &mut [u16; 32768]) -> Scanned
     ensures { λ r. ⌜ Ended (length (now (list .entry))) r (now (list .exit)) ⌝ }
     ensures { λ r. ⌜ scannedReading (r, now (list .exit)) ≡ reading (now (text .entry)) ⌝ }
 {
-    Scan::start().piece(text, list).finish(list)
+    scanning::finish(scanning::piece(scanning::start(), text, list), list)
 }
 
 // The number at a place of a list, or 0 after its end.

@@ -1,13 +1,13 @@
--- `words::Scan::piece` meets its contract. The invariant: the bytes from `i` on take the present state where all of them take the first.
+-- `scanning::piece` meets its contract. The invariant: the bytes from `i` on take the present state where all of them take the first.
 use mathlib.Core.Path.{_≡_, refl, sym, _∙_}
 use Prim.Native.Nat.{_≤_, _-_}
 use native.Mathlib.Omega.{arith}
 use borrow.Author.Needs.{needs}
 use lib.ListN.{length, drop}
 use Rattle.words.specs.Scanner.{advanced}
 use Rattle.words.proofs.Steps.{advanced-at, advanced-end}
-use Rattle.words.proofs.Scan.piece.Statement.{statement}
-use Rattle.words.proofs.Scan.piece.Tie as tie
+use Rattle.scanning.proofs.piece.Statement.{statement}
+use Rattle.scanning.proofs.piece.Tie as tie
 
 abbrev Inv-loop : tie.InvT-loop
 Inv-loop bytes list₀ state₀ i₀ list state i =

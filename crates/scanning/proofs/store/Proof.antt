@@ -1,9 +1,9 @@
--- `words::store` meets its contract: its test is that of `stored`.
+-- `scanning::store` meets its contract: its test is that of `stored`.
 use borrow.Author.Needs.{needs}
 use borrow.Author.Tests.{lt-ltb, le-ltb}
 use Rattle.words.specs.Scanner.{stored}
-use Rattle.words.proofs.store.Statement.{statement}
-use Rattle.words.proofs.store.Tie as tie
+use Rattle.scanning.proofs.store.Statement.{statement}
+use Rattle.scanning.proofs.store.Tie as tie
 
 mul-list : tie.Need-mul-list
 mul-list c = search needs

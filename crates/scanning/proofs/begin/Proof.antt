@@ -1,9 +1,9 @@
--- `words::begin` meets its contract: its test is that of `begun`.
+-- `scanning::begin` meets its contract: its test is that of `begun`.
 use borrow.Author.Needs.{needs}
 use borrow.Author.Tests.{lt-ltb, le-ltb}
 use Rattle.words.specs.Scanner.{begun}
-use Rattle.words.proofs.begin.Statement.{statement}
-use Rattle.words.proofs.begin.Tie as tie
+use Rattle.scanning.proofs.begin.Statement.{statement}
+use Rattle.scanning.proofs.begin.Tie as tie
 
 returns : tie.Need-returns
 unfolding begun
