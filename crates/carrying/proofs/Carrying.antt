@@ -22,13 +22,13 @@ use Rattle.places.specs.Places.{stepAt, stepIn, stepCount, operandsOf}
 use Rattle.places.specs.declared.Placed.the-variants.{Step as StepAt, Missing}
 use Rattle.places.proofs.Stands.{step-described}
 use Rattle.sheets.specs.Buffers.{Suffices}
-use Rattle.sheets.specs.Sheet.{LevelsAtMost, Sound, SmallEnough, Agree}
+use Rattle.step_tables.specs.Sheet.{LevelsAtMost, Sound, SmallEnough, Agree}
 use Rattle.sheets.specs.Steps.{Outcome, filled, refused, proceed, provided, opening, operation, sized, firstStep, laterStep, laterSteps, allSteps}
 use Rattle.sheets.specs.declared.answer.Refusal.{Refusal}
 use Rattle.sheets.specs.declared.answer.Refusal.the-variants.{StepNotAllowed}
 use Rattle.sheets.specs.declared.answer.Answer.{Answer}
 use Rattle.sheets.specs.declared.answer.Answer.the-variants.{Filled, Refused}
-use Rattle.sheets.proofs.Agreement.{agree-refl, agree-sym, agree-columns, agree-levels, agree-array}
+use Rattle.step_tables.proofs.Agreement.{agree-refl, agree-sym, agree-columns, agree-levels, agree-array}
 use Rattle.sheets.proofs.Carried.{refused-not-filled}
 use Rattle.sheets.proofs.Ingredients.{all-at}
 use Rattle.sheets.proofs.Sheets.{first-filled, later-filled}

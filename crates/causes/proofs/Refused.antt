@@ -39,8 +39,8 @@ use Rattle.order.proofs.InRange.{range-iff}
 use Rattle.order_causes.proofs.Unreadable.{unreadable}
 use Rattle.order_causes.proofs.OutOfRange.{out-of-range}
 use Rattle.sheets.specs.Buffers.{Lengths, Suffices}
-use Rattle.sheets.specs.Sheet.{smallEnough}
-use Rattle.sheets.specs.Merge.{MemberFault}
+use Rattle.step_tables.specs.Sheet.{smallEnough}
+use Rattle.step_tables.specs.Merge.{MemberFault}
 use Rattle.sheets.specs.Steps.{Outcome, filled, refused, proceed, provided, Operation, sum, merge, split, opening, operation, fits, wrongMember, applied, sized, afterSums, operate, firstStep, laterStep, laterSteps, allSteps}
 use Rattle.sheets.specs.Outcome.{rangeRefusal, tableRefusal, matrixRefusal, generatorRefusal, ingredientRefusal, ingredientsRefusal, unless, readOutcome, outcome}
 use Rattle.sheets.specs.Naming.{Does}
@@ -48,7 +48,7 @@ use Rattle.sheets.specs.Fillable.{MeetsDefinition, Fits, Carried, LaterCarried,
 use Rattle.sheets.specs.declared.answer.Refusal.{Refusal}
 use Rattle.sheets.specs.declared.answer.Refusal.the-variants.{UnevenLevel, UnevenPair, UnevenDifference, Dependent, StepNotAllowed, PartsDoNotFit, NotTheSum, TooLarge}
 use Rattle.sheets.proofs.Naming.{opens-iff, does-iff}
-use Rattle.sheets.proofs.StepQuestions.{size-decides, fault-lowest}
+use Rattle.step_tables.proofs.StepQuestions.{size-decides, fault-lowest}
 use Rattle.sheets.proofs.OrderQuestions.{reads-whole, ingredient-decides, ingredients-decide}
 use Rattle.sheets.proofs.Carried.{refused-not-filled, first-carried, step-carried, fits-decides, sums-decide}
 use Rattle.sheets.proofs.Filled.{outcome-read, asked}

@@ -18,8 +18,8 @@ use Rattle.order.specs.Order.{Ingredient, table, matrix, generator, Step, Order
 use Rattle.order.specs.Range.{EntriesInRange}
 use Rattle.order_causes.specs.Causes.{NotAnOrder, FirstOutOfRange}
 use Rattle.sheets.specs.Buffers.{Lengths, Suffices}
-use Rattle.sheets.specs.Sheet.{SmallEnough}
-use Rattle.sheets.specs.Merge.{MergeFits, LowestFault}
+use Rattle.step_tables.specs.Sheet.{SmallEnough}
+use Rattle.step_tables.specs.Merge.{MergeFits, LowestFault}
 use Rattle.sheets.specs.Steps.{Operation, merge, applied}
 use Rattle.sheets.specs.Naming.{Opens, Does}
 use Rattle.sheets.specs.Fillable.{MeetsDefinition, Fits, TrueSums, AllCarried, finalSheet}

@@ -19,7 +19,7 @@ use Rattle.order.proofs.Segment.{Segment, segment-fits}
 use Rattle.places.specs.Places.{ingredientAt, ingredientIn}
 use Rattle.places.proofs.Stands.{ingredient-stands, ingredient-described}
 use Rattle.sheets.specs.Ingredients.{asGenerator, generatorNamed}
-use Rattle.sheets.specs.Sheet.{SmallEnough}
+use Rattle.step_tables.specs.Sheet.{SmallEnough}
 use Rattle.sheets.specs.Steps.{filled, refused, provided, fieldStep, opening, sized, firstStep}
 use Rattle.sheets.specs.declared.answer.Refusal.the-variants.{StepNotAllowed}
 use Rattle.sheets.proofs.Carried.{filled-sized}

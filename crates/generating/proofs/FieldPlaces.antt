@@ -20,8 +20,8 @@ use Rattle.galois.specs.Combination.{combination}
 use Rattle.galois.proofs.Fields.{field, size-positive}
 use Rattle.galois.proofs.FieldAlgebra.{combination-below}
 use Rattle.counting.specs.Generator.{generatorOf, width, ElementsInRange}
-use Rattle.sheets.specs.Field.{columnElements, values}
-use Rattle.sheets.proofs.FieldCount.{values-length, values-below}
+use Rattle.step_tables.specs.Field.{columnElements, values}
+use Rattle.step_tables.proofs.FieldCount.{values-length, values-below}
 use Rattle.generating.specs.FieldPlaces.{FieldStands, ColumnsIn, fieldGenerator}
 use Rattle.generating.specs.LevelSums.{digitSums, single}
 use Rattle.generating.specs.declared.GeneratorAt.{GeneratorAt}

@@ -10,8 +10,8 @@ use Rattle.finite.specs.Digits.{numeral}
 use Rattle.finite.specs.Lists.{from}
 use Rattle.galois.specs.Combination.{combination}
 use Rattle.counting.specs.Generator.{Generator}
-use Rattle.sheets.specs.Field.{columnElements, values}
-use Rattle.sheets.proofs.FieldCount.{values-append}
+use Rattle.step_tables.specs.Field.{columnElements, values}
+use Rattle.step_tables.proofs.FieldCount.{values-append}
 use Rattle.layout.proofs.Bytes.{from-next}
 
 numeral-next : (s : ℕ) (xs : List ℕ) (x : ℕ) → numeral s (xs ++ x ∷ []) ≡ numeral s xs * s + x

@@ -12,9 +12,9 @@ use Rattle.finite.specs.Sum.{sum}
 use Rattle.finite.proofs.Sums.{sum-le}
 use Rattle.counting.specs.Generator.{generatorOf, width, factorColumns}
 use Rattle.counting.specs.Table.{Table, columns, levelsOf}
-use Rattle.sheets.specs.Field.{fieldTable}
+use Rattle.step_tables.specs.Field.{fieldTable}
 use Rattle.sheets.specs.Steps.{fieldStep}
-use Rattle.sheets.proofs.FieldTable.{field-columns, field-levels}
+use Rattle.step_tables.proofs.FieldTable.{field-columns, field-levels}
 use Rattle.generating.specs.FieldPlaces.{FieldStands, ColumnsIn, widthsIn, fieldGenerator}
 use Rattle.generating.specs.declared.GeneratorAt.{GeneratorAt}
 use Rattle.generating.proofs.FieldPlaces.{levelAt}

@@ -6,7 +6,7 @@ ghost use lib.ListN.{length};
 ghost use Rattle.finite.specs.Digits.{digits, numeral};
 ghost use Rattle.finite.specs.Lists.{from};
 ghost use Rattle.galois.specs.Arithmetic.{fieldSize, fieldSum, fieldProduct};
-ghost use Rattle.sheets.specs.Field.{values};
+ghost use Rattle.step_tables.specs.Field.{values};
 ghost use Rattle.sheets.specs.Steps.{filled, fieldStep};
 ghost use Rattle.buffers.specs.Put.{Put};
 ghost use Rattle.layout.specs.Bytes.{Zeros, runOf, runsOf};

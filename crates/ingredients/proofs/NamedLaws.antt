@@ -24,7 +24,7 @@ use Rattle.order.specs.declared.Located.the-variants.{Table as TableAt, Matrix 
 use Rattle.order.specs.Range.{EntriesInRange}
 use Rattle.places.specs.Places.{ingredientAt, ingredientIn}
 use Rattle.places.proofs.Stands.{ingredient-described}
-use Rattle.sheets.specs.Sheet.{SmallEnough}
+use Rattle.step_tables.specs.Sheet.{SmallEnough}
 use Rattle.sheets.specs.Ingredients.{asTable, asMatrix, asGenerator, listed, tableNamed, matrixNamed, generatorNamed}
 use Rattle.ingredients.specs.Named.{ownTable, namedTable, tableIn, Legible, someTable, someMatrix, someGenerator}
 use Rattle.ingredients.specs.Standing.{TableStands}

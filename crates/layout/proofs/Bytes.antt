@@ -15,8 +15,8 @@ use Rattle.finite.specs.Lists.{from}
 use Rattle.finite.proofs.Lists.{length-from}
 use Rattle.buffers.specs.Put.{Put}
 use Rattle.counting.specs.Table.{Table, columns}
-use Rattle.sheets.specs.Sheet.{fromSources}
-use Rattle.sheets.proofs.Lists.{map-getD, getD-map}
+use Rattle.step_tables.specs.Sheet.{fromSources}
+use Rattle.step_tables.proofs.Lists.{map-getD, getD-map}
 use Rattle.layout.specs.Bytes.{runOf, runsOf, zeros, padded, Zeros}
 
 -- ---- zeros

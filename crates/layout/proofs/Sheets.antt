@@ -13,8 +13,8 @@ use Rattle.finite.specs.Lists.{from}
 use Rattle.buffers.specs.Put.{Put}
 use Rattle.buffers.proofs.Puts.{put-front}
 use Rattle.counting.specs.Table.{Table, columns, levelsOf, tableOf}
-use Rattle.sheets.specs.Sheet.{Agree}
-use Rattle.sheets.proofs.Agreement.{agree-columns}
+use Rattle.step_tables.specs.Sheet.{Agree}
+use Rattle.step_tables.proofs.Agreement.{agree-columns}
 use Rattle.layout.specs.Bytes.{runOf, runsOf, zeros, padded, Holds, Zeros, sheetIn}
 use Rattle.layout.specs.Step.{Ready}
 use Rattle.layout.specs.declared.Size.{Size}

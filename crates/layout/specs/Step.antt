@@ -9,7 +9,7 @@ use Rattle.order.specs.Grammar.{readOrder, Reads}
 use Rattle.order.specs.Range.{EntriesInRange}
 use Rattle.places.specs.Places.{stepAt, operandsOf}
 use Rattle.places.specs.declared.Placed.the-variants.{Step as StepAt}
-use Rattle.sheets.specs.Sheet.{Sound, SmallEnough}
+use Rattle.step_tables.specs.Sheet.{Sound, SmallEnough}
 use Rattle.sheets.specs.Steps.{Outcome, filled, refused, firstStep, laterStep}
 use Rattle.sheets.specs.declared.answer.Refusal.the-variants.{Unreadable}
 use Rattle.sheets.specs.declared.answer.Answer.{Answer}

@@ -16,10 +16,10 @@ use lib.ListN.{length, getD, take, drop, set}
 use lib.Seq.{length-take-le, take-suc, take-all, split-at, getD-set-same, getD-set-other}
 use Rattle.galois.specs.Arithmetic.{member}
 use Rattle.counting.specs.Table.{tableOf}
-use Rattle.sheets.specs.Lists.{Distinct}
-use Rattle.sheets.specs.Merge.{MergeFits, mergeFits}
-use Rattle.sheets.proofs.Lists.{mem-getD, mem-member, member-mem, distinct-append}
-use Rattle.sheets.proofs.StepQuestions.{merge-decides}
+use Rattle.step_tables.specs.Lists.{Distinct}
+use Rattle.step_tables.specs.Merge.{MergeFits, mergeFits}
+use Rattle.step_tables.proofs.Lists.{mem-getD, mem-member, member-mem, distinct-append}
+use Rattle.step_tables.proofs.StepQuestions.{merge-decides}
 use Rattle.merge_questions.specs.Questions.{roleOf, HasRoles}
 
 -- ---- roles

@@ -8,7 +8,7 @@ use lib.ListN.{length, getD, take, drop, length-drop}
 use lib.Seq.{length-take-le, getD-take, getD-drop}
 use Rattle.finite.proofs.Fits.{run-end}
 use Rattle.counting.specs.Table.{tableOf}
-use Rattle.sheets.proofs.Lists.{mem-getD}
+use Rattle.step_tables.proofs.Lists.{mem-getD}
 use Rattle.merge_questions.specs.Questions.{membersOf, Fitting}
 
 -- ---- a part of a list, as it is lent

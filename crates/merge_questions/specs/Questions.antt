@@ -9,7 +9,7 @@ use lib.ListN.{length, getD}
 use Rattle.finite.specs.First.{first}
 use Rattle.galois.specs.Arithmetic.{member}
 use Rattle.counting.specs.Table.{Table, InRange, tableOf}
-use Rattle.sheets.specs.Merge.{MergeFits, MemberFault, memberFaultAt}
+use Rattle.step_tables.specs.Merge.{MergeFits, MemberFault, memberFaultAt}
 use Rattle.merge_questions.specs.declared.Fault.{Fault}
 use Rattle.merge_questions.specs.declared.Fault.the-variants.{Nowhere, At}
 

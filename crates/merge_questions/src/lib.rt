@@ -8,7 +8,7 @@ ghost use Prim.Native.Nat.{_≤_, _<_};
 ghost use lib.ListN.{length, getD};
 ghost use Rattle.finite.specs.Lists.{AllBelow};
 ghost use Rattle.counting.specs.Table.{tableOf};
-ghost use Rattle.sheets.specs.Merge.{mergeFits, memberFault};
+ghost use Rattle.step_tables.specs.Merge.{mergeFits, memberFault};
 ghost use Rattle.merge_questions.specs.Questions.{membersOf, Named, Fitting, HasRoles, everyRun, runFault, asFault};
 
 // A member that is not its sum: the run, from 0, and the member's number, from 1.

@@ -14,7 +14,7 @@ use Rattle.buffers.specs.Put.{Put}
 use Rattle.buffers.proofs.Puts.{put-none, put-join, put-length}
 use Rattle.galois.specs.Arithmetic.{member}
 use Rattle.counting.specs.Table.{Table, columns}
-use Rattle.sheets.specs.Merge.{MergeSource, kept, merged as merged-column, mergePlace, mergeSources}
+use Rattle.step_tables.specs.Merge.{MergeSource, kept, merged as merged-column, mergePlace, mergeSources}
 use Rattle.merge_questions.specs.Questions.{HasRoles, roleOf}
 use Rattle.merged_sheet.specs.Merged.{Stretch, memberPlace, placeBy, mergedRow}
 use Rattle.layout.proofs.Bytes.{flatMap-same, flatMap-next}

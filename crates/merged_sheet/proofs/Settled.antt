@@ -10,8 +10,8 @@ use lib.Seq.{length-take-le}
 use Rattle.buffers.specs.Put.{Put}
 use Rattle.buffers.proofs.Puts.{put-length, put-part, put-front}
 use Rattle.counting.specs.Table.{Table, columns, tableOf}
-use Rattle.sheets.specs.Sheet.{fromSources}
-use Rattle.sheets.specs.Merge.{mergeLevels, mergeStep}
+use Rattle.step_tables.specs.Sheet.{fromSources}
+use Rattle.step_tables.specs.Merge.{mergeLevels, mergeStep}
 use Rattle.sheets.specs.Steps.{filled}
 use Rattle.sheets.specs.declared.answer.Answer.the-variants.{Filled}
 use Rattle.layout.specs.Bytes.{runsOf, padded, Zeros, sheetIn}

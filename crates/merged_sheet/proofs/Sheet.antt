@@ -13,9 +13,9 @@ use Rattle.finite.proofs.Fits.{run-more}
 use Rattle.buffers.specs.Put.{Put}
 use Rattle.buffers.proofs.Puts.{put-none}
 use Rattle.counting.specs.Table.{Table, columns, tableOf, InRange}
-use Rattle.sheets.specs.Merge.{mergeSources, mergeLevels, mergedLevel, mergeValue, mergeStep}
-use Rattle.sheets.proofs.Lists.{mem-getD}
-use Rattle.sheets.proofs.Merge.{merge-columns}
+use Rattle.step_tables.specs.Merge.{mergeSources, mergeLevels, mergedLevel, mergeValue, mergeStep}
+use Rattle.step_tables.proofs.Lists.{mem-getD}
+use Rattle.step_tables.proofs.Merge.{merge-columns}
 use Rattle.layout.specs.Bytes.{runOf, runsOf}
 use Rattle.merge_questions.specs.Questions.{membersOf, Fitting, HasRoles}
 use Rattle.merged_sheet.specs.Merged.{mergedRow}

@@ -12,7 +12,7 @@ ghost use Prim.Native.Nat.{_+_, _*_, _≤_, _<_};
 ghost use lib.ListN.{length, getD};
 ghost use Rattle.buffers.specs.Put.{Put};
 ghost use Rattle.counting.specs.Table.{tableOf};
-ghost use Rattle.sheets.specs.Merge.{mergeStep};
+ghost use Rattle.step_tables.specs.Merge.{mergeStep};
 ghost use Rattle.sheets.specs.Steps.{filled};
 ghost use Rattle.layout.specs.Bytes.{Zeros, runsOf, sheetIn};
 ghost use Rattle.layout.specs.Step.{Left};

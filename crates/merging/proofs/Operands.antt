@@ -11,15 +11,15 @@ use lib.Seq.{length-take-le}
 use Rattle.counting.specs.Table.{Table, columns, tableOf}
 use Rattle.order.specs.Order.{Between}
 use Rattle.order.proofs.Segment.{segment-fits}
-use Rattle.sheets.specs.Sheet.{fromSources, SmallEnough, smallEnough}
-use Rattle.sheets.specs.Merge.{MergeFits, mergeFits, memberFault, mergeStep}
+use Rattle.step_tables.specs.Sheet.{fromSources, SmallEnough, smallEnough}
+use Rattle.step_tables.specs.Merge.{MergeFits, mergeFits, memberFault, mergeStep}
 use Rattle.sheets.specs.Steps.{filled, refused, provided, merge, operation, fits, wrongMember, applied, sized, afterSums, operate, laterStep}
 use Rattle.sheets.specs.declared.answer.Refusal.the-variants.{PartsDoNotFit, NotTheSum, TooLarge}
 use Rattle.sheets.specs.declared.answer.Answer.{Answer}
 use Rattle.sheets.specs.declared.answer.Answer.the-variants.{Refused}
 use Rattle.sheets.proofs.Ingredients.{all-getD}
-use Rattle.sheets.proofs.Merge.{merge-columns}
-use Rattle.sheets.proofs.StepQuestions.{size-decides, merge-decides}
+use Rattle.step_tables.proofs.Merge.{merge-columns}
+use Rattle.step_tables.proofs.StepQuestions.{size-decides, merge-decides}
 use Rattle.layout.specs.Bytes.{zeros, sheetIn}
 use Rattle.layout.specs.Step.{Readable, Stands, Ready, laterIn, Left}
 use Rattle.merge_questions.specs.Questions.{membersOf, Named, Fitting, roleOf, HasRoles, asFault}

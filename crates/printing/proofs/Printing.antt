@@ -8,7 +8,7 @@ use native.Mathlib.Nat.{le-trans}
 use native.Mathlib.Omega.{arith}
 use lib.ListN.{length}
 use Rattle.counting.specs.Table.{Table, columns}
-use Rattle.sheets.specs.Sheet.{SmallEnough}
+use Rattle.step_tables.specs.Sheet.{SmallEnough}
 use Rattle.sheets.specs.Steps.{Outcome, filled, refused}
 use Rattle.sheets.specs.Outcome.{outcome}
 use Rattle.sheets.specs.declared.answer.Refusal.the-variants.{ShortBuffers}

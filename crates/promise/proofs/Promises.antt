@@ -14,7 +14,7 @@ use Rattle.finite.proofs.Counts.{count-ext}
 use Rattle.finite.proofs.Tests.{T-and}
 use Rattle.counting.specs.Table.{Table, columns, levelsOf, shows, times, combinations, Apart, Settings, InRange, Even}
 use Rattle.sheets.specs.Refusals.{refusalNumber, answerNumbers}
-use Rattle.sheets.specs.Sheet.{Sound, SmallEnough}
+use Rattle.step_tables.specs.Sheet.{Sound, SmallEnough}
 use Rattle.sheets.specs.Steps.{Outcome, filled, refused}
 use Rattle.sheets.specs.Outcome.{outcome}
 use Rattle.sheets.specs.Fillable.{Fillable, orderedTable}

@@ -12,8 +12,8 @@ use Rattle.order.specs.Reader.{allowed}
 use Rattle.order.specs.Reader as reader
 use Rattle.order.specs.Grammar.{readIngredient, readNaming, readSum, readMerge, readSplit, readStep, readParts, readOrder}
 use Rattle.order.specs.Range.{ingredientRange, rangeOf}
-use Rattle.sheets.specs.Sheet.{fromSources, takeStep, smallEnough}
-use Rattle.sheets.specs.Merge.{mergePlace, mergeSources, mergeLevels, mergedLevel, mergeValue, mergeStep, mergeFits, memberSum, memberFaultAt, memberFault}
+use Rattle.step_tables.specs.Sheet.{fromSources, takeStep, smallEnough}
+use Rattle.step_tables.specs.Merge.{mergePlace, mergeSources, mergeLevels, mergedLevel, mergeValue, mergeStep, mergeFits, memberSum, memberFaultAt, memberFault}
 use Rattle.sheets.specs.Ingredients.{asTable, listed, tableNamed}
 use Rattle.sheets.specs.Steps.{proceed, provided, opening, operation, fits, wrongMember, applied, sized, afterSums, operate, firstStep, laterStep, laterSteps, allSteps}
 use Rattle.sheets.specs.Outcome.{rangeRefusal, ingredientRefusal, ingredientsRefusal, unless, readOutcome, outcome}

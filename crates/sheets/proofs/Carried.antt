@@ -10,14 +10,14 @@ use native.Mathlib.Omega.{arith}
 use lib.Dec.{T}
 use Rattle.counting.specs.Table.{Table}
 use Rattle.order.specs.Order.{Step, Order}
-use Rattle.sheets.specs.Sheet.{SmallEnough, smallEnough}
-use Rattle.sheets.specs.Sum.{rowsOf, adjoinedTable}
-use Rattle.sheets.specs.Merge.{MemberFault}
+use Rattle.step_tables.specs.Sheet.{SmallEnough, smallEnough}
+use Rattle.step_tables.specs.Sum.{rowsOf, adjoinedTable}
+use Rattle.step_tables.specs.Merge.{MemberFault}
 use Rattle.sheets.specs.Steps.{Outcome, filled, refused, proceed, provided, Operation, sum, merge, split, opening, operation, fits, wrongMember, applied, sized, afterSums, operate, firstStep, laterStep, laterSteps, allSteps}
 use Rattle.sheets.specs.Fillable.{Fits, TrueSums, Opened, Carried, LaterCarried, AllCarried, laterSheets, latest, finalSheet}
 use Rattle.sheets.specs.declared.answer.Refusal.{Refusal}
 use Rattle.sheets.proofs.Naming.{opens-iff, does-iff}
-use Rattle.sheets.proofs.StepQuestions.{size-decides, split-decides, merge-decides, members-decide, sum-decides}
+use Rattle.step_tables.proofs.StepQuestions.{size-decides, split-decides, merge-decides, members-decide, sum-decides}
 
 -- ---- outcomes
 

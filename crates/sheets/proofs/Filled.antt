@@ -14,7 +14,7 @@ use Rattle.order.specs.Range.{rangeOf}
 use Rattle.order.specs.declared.Entries.the-variants.{Unread}
 use Rattle.order.proofs.OrderLaw.{reads-iff}
 use Rattle.order.proofs.InRange.{range-iff}
-use Rattle.sheets.specs.Sheet.{Sound, SmallEnough}
+use Rattle.step_tables.specs.Sheet.{Sound, SmallEnough}
 use Rattle.sheets.specs.Steps.{Outcome, filled, allSteps}
 use Rattle.sheets.specs.Outcome.{rangeRefusal, ingredientsRefusal, unless, readOutcome, outcome}
 use Rattle.sheets.specs.Fillable.{Fillable, sheets, orderedTable}

@@ -28,14 +28,14 @@ use Rattle.house.specs.House.{house101, house102, house103, house104, houseOf, 
 use Rattle.house.proofs.Passing.{house-passes, house-even, house-number}
 use Rattle.order.specs.Order.{Ingredient, table, matrix, generator, Order, total, All, Between, GeneratorField, FactorWidth, IngredientLimits, WithinLimits, entriesOf}
 use Rattle.order.specs.Range.{bound, EntriesInRange}
-use Rattle.sheets.specs.Lists.{allOf}
-use Rattle.sheets.specs.Sheet.{LevelsAtMost, Sound}
-use Rattle.sheets.specs.Sum.{PassingMatrix}
+use Rattle.step_tables.specs.Lists.{allOf}
+use Rattle.step_tables.specs.Sheet.{LevelsAtMost, Sound}
+use Rattle.step_tables.specs.Sum.{PassingMatrix}
 use Rattle.sheets.specs.Ingredients.{asTable, asMatrix, asGenerator, listed, tableNamed, matrixNamed, generatorNamed, matricesNamed, adjoinedNamed}
 use Rattle.sheets.specs.Steps.{fieldStep}
 use Rattle.sheets.specs.Fillable.{MeetsDefinition}
-use Rattle.sheets.proofs.Lists.{allOf-mem, mem-getD}
-use Rattle.sheets.proofs.FieldTable.{field-columns, field-levels, field-leaves}
+use Rattle.step_tables.proofs.Lists.{allOf-mem, mem-getD}
+use Rattle.step_tables.proofs.FieldTable.{field-columns, field-levels, field-leaves}
 
 -- ---- lists
 

@@ -1,18 +1,3 @@
-pub mod Lists
-pub mod Columns
-pub mod Separate
-pub mod Replace
-pub mod Groups
-pub mod Plane
-pub mod Sum
-pub mod Merge
-pub mod Split
-pub mod FieldBalance
-pub mod FieldWithin
-pub mod FieldIndependent
-pub mod FieldCount
-pub mod FieldTable
-pub mod StepQuestions
 pub mod OrderQuestions
 pub mod Naming
 pub mod Carried
@@ -20,7 +5,6 @@ pub mod Ingredients
 pub mod Sheets
 pub mod NonEmpty
 pub mod Filled
-pub mod Agreement
 pub mod StepAgreement
 pub mod Numbers
 pub mod Starred

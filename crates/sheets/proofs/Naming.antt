@@ -15,7 +15,7 @@ use Rattle.counting.specs.Generator.{Generator}
 use Rattle.house.specs.House.{HouseNumber, houseOf, houseTable}
 use Rattle.house.proofs.Passing.{house-number, number-house}
 use Rattle.order.specs.Order.{Ingredient, table, matrix, generator, Step, TAKE, FIELD, SUM, MERGE, SPLIT, Order}
-use Rattle.sheets.specs.Sheet.{takeStep}
+use Rattle.step_tables.specs.Sheet.{takeStep}
 use Rattle.sheets.specs.Ingredients.{asTable, asMatrix, asGenerator, listed, tableNamed, matrixNamed, generatorNamed, matricesNamed, adjoinedNamed}
 use Rattle.sheets.specs.Steps.{Operation, sum, split, fieldStep, opening, operation}
 use Rattle.sheets.specs.Naming.{IsIngredient, IsTable, NamesMatrix, NamesGenerator, NamesTable, NamesMatrices, NamesAdjoined, Opens, Does}

@@ -21,18 +21,18 @@ use Rattle.counting.specs.Generator.{Generator, generatorOf}
 use Rattle.galois.specs.Arithmetic.{member}
 use Rattle.house.specs.House.{house101, house102, house103, house104, houseOf}
 use Rattle.order.specs.Order.{Ingredient, Step, TAKE, FIELD, SUM, MERGE, SPLIT, Order, All, IngredientLimits, StepLimits, WithinLimits}
-use Rattle.sheets.specs.Sheet.{fromSources, takeStep}
-use Rattle.sheets.specs.Field.{fieldTable}
-use Rattle.sheets.specs.Sum.{levelSum, rowsOf, serving, adjoinedTable, summedColumns, sumStep, SumFits}
-use Rattle.sheets.specs.Merge.{mergeStep, MergeFits}
-use Rattle.sheets.specs.Split.{splitStep, SplitFits}
+use Rattle.step_tables.specs.Sheet.{fromSources, takeStep}
+use Rattle.step_tables.specs.Field.{fieldTable}
+use Rattle.step_tables.specs.Sum.{levelSum, rowsOf, serving, adjoinedTable, summedColumns, sumStep, SumFits}
+use Rattle.step_tables.specs.Merge.{mergeStep, MergeFits}
+use Rattle.step_tables.specs.Split.{splitStep, SplitFits}
 use Rattle.sheets.specs.Steps.{Operation, fieldStep, applied}
 use Rattle.sheets.specs.Naming.{IsIngredient, NamesMatrix, NamesGenerator, NamesTable, NamesMatrices, Opens, Does}
 use Rattle.sheets.specs.Fillable.{Fits, LaterCarried, AllCarried, laterSheets, latest, finalSheet}
-use Rattle.sheets.proofs.Lists.{mem-getD, count-member}
-use Rattle.sheets.proofs.Sum.{sum-columns, serving-some}
-use Rattle.sheets.proofs.Merge.{merge-columns}
-use Rattle.sheets.proofs.Split.{split-columns}
+use Rattle.step_tables.proofs.Lists.{mem-getD, count-member}
+use Rattle.step_tables.proofs.Sum.{sum-columns, serving-some}
+use Rattle.step_tables.proofs.Merge.{merge-columns}
+use Rattle.step_tables.proofs.Split.{split-columns}
 use Rattle.sheets.proofs.Ingredients.{all-at}
 
 pub record NonEmpty (S : Table) : Type 0 where

@@ -17,17 +17,17 @@ use Rattle.counting.specs.Table.{Table, columns, InRange}
 use Rattle.counting.specs.Matrix.{Matrix}
 use Rattle.order.specs.Order.{Step, TAKE, FIELD, SUM, MERGE, SPLIT, Order, All, MergePrime, StepLimits, WithinLimits}
 use Rattle.order.specs.Range.{EntriesInRange}
-use Rattle.sheets.specs.Sheet.{LevelsAtMost, Sound, SmallEnough, takeStep}
-use Rattle.sheets.specs.Sum.{levelSum, rowsOf, adjoinedTable}
-use Rattle.sheets.specs.Merge.{mergePrimes}
+use Rattle.step_tables.specs.Sheet.{LevelsAtMost, Sound, SmallEnough, takeStep}
+use Rattle.step_tables.specs.Sum.{levelSum, rowsOf, adjoinedTable}
+use Rattle.step_tables.specs.Merge.{mergePrimes}
 use Rattle.sheets.specs.Ingredients.{tableNamed, generatorNamed, matricesNamed, adjoinedNamed}
 use Rattle.sheets.specs.Steps.{filled, Operation, sum, merge, split, fieldStep, opening, operation, applied, firstStep, laterStep}
 use Rattle.sheets.specs.Fillable.{MeetsDefinition, Fits, TrueSums, LaterCarried, AllCarried, laterSheets, sheets, latest, finalSheet}
 use Rattle.sheets.proofs.Naming.{opens-iff, does-iff}
 use Rattle.sheets.proofs.Carried.{first-carried, step-carried}
-use Rattle.sheets.proofs.Sum.{sum-leaves, sum-levels}
-use Rattle.sheets.proofs.Merge.{merge-leaves, merge-levels}
-use Rattle.sheets.proofs.Split.{split-leaves, split-levels}
+use Rattle.step_tables.proofs.Sum.{sum-leaves, sum-levels}
+use Rattle.step_tables.proofs.Merge.{merge-leaves, merge-levels}
+use Rattle.step_tables.proofs.Split.{split-leaves, split-levels}
 use Rattle.sheets.proofs.Ingredients.{table-sound, matrices-passing, generator-sound, adjoined-sound}
 
 -- a level of a sound sheet fits a byte with room to spare

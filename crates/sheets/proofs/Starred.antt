@@ -19,10 +19,10 @@ use Rattle.house.specs.House.{houseTable, houseOf, house101}
 use Rattle.order.specs.Reader.{allowed, numbers}
 use Rattle.order.specs.Grammar.{tableBody, matrixBody, generatorBody, readIngredient, readNaming, readSum, readMerge, readSplit, readStep, readParts, readOrder}
 use Rattle.order.specs.Range.{ingredientRange, rangeOf}
-use Rattle.sheets.specs.Sheet.{fromSources, takeStep, smallEnough}
-use Rattle.sheets.specs.Field.{columnElements, values, fieldTable}
-use Rattle.sheets.specs.Sum.{levelSum, rowsOf, serving, adjoinedTable, summedWith, sumPlace, sumSources, sumLevels, sumEntry, sumValue, sumStep, sumFits}
-use Rattle.sheets.specs.Merge.{mergePlace, mergeSources, mergeLevels, mergedLevel, mergeValue, mergeStep, mergeFits, memberSum, memberFaultAt, memberFault}
+use Rattle.step_tables.specs.Sheet.{fromSources, takeStep, smallEnough}
+use Rattle.step_tables.specs.Field.{columnElements, values, fieldTable}
+use Rattle.step_tables.specs.Sum.{levelSum, rowsOf, serving, adjoinedTable, summedWith, sumPlace, sumSources, sumLevels, sumEntry, sumValue, sumStep, sumFits}
+use Rattle.step_tables.specs.Merge.{mergePlace, mergeSources, mergeLevels, mergedLevel, mergeValue, mergeStep, mergeFits, memberSum, memberFaultAt, memberFault}
 use Rattle.sheets.specs.Refusals.{numbered}
 use Rattle.sheets.specs.Ingredients.{asTable, asMatrix, asGenerator, listed, tableNamed, matrixNamed, generatorNamed, matricesNamed, adjoinedNamed}
 use Rattle.sheets.specs.Steps.{Outcome, filled, refused, proceed, provided, fieldStep, opening, operation, fits, wrongMember, applied, sized, afterSums, operate, firstStep, laterStep, laterSteps, allSteps}

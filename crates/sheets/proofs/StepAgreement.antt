@@ -18,21 +18,21 @@ use Rattle.galois.specs.Arithmetic.{member}
 use Rattle.counting.specs.Matrix.{Matrix}
 use Rattle.counting.specs.Table.{Table, columns, InRange}
 use Rattle.order.specs.Order.{Step, Order}
-use Rattle.sheets.specs.Lists.{allOf, allDifferent}
-use Rattle.sheets.specs.Sheet.{Agree}
-use Rattle.sheets.specs.Sum.{levelSum, modulusOf, rowsOf, serving, adjoinedTable, SumSource, summed, adjoined, summedWith, sumPlace, sumSources, sumLevels, sumEntry, sumValue, sumStep, SumFits, sumFits}
-use Rattle.sheets.specs.Merge.{memberAt, MemberFault, MergeSource, kept, merged, mergePlace, mergeSources, mergeLevels, mergedLevel, mergeValue, mergeStep, MergeFits, mergeFits, memberSum, memberFaultAt, memberFault}
-use Rattle.sheets.specs.Split.{SplitSource, kept as unsplit, part, splitPlace, splitSources, splitLevels, splitValue, splitStep, SplitFits, splitFits}
+use Rattle.step_tables.specs.Lists.{allOf, allDifferent}
+use Rattle.step_tables.specs.Sheet.{Agree}
+use Rattle.step_tables.specs.Sum.{levelSum, modulusOf, rowsOf, serving, adjoinedTable, SumSource, summed, adjoined, summedWith, sumPlace, sumSources, sumLevels, sumEntry, sumValue, sumStep, SumFits, sumFits}
+use Rattle.step_tables.specs.Merge.{memberAt, MemberFault, MergeSource, kept, merged, mergePlace, mergeSources, mergeLevels, mergedLevel, mergeValue, mergeStep, MergeFits, mergeFits, memberSum, memberFaultAt, memberFault}
+use Rattle.step_tables.specs.Split.{SplitSource, kept as unsplit, part, splitPlace, splitSources, splitLevels, splitValue, splitStep, SplitFits, splitFits}
 use Rattle.sheets.specs.Steps.{Outcome, filled, refused, provided, Operation, sum, merge, split, operation, fits, wrongMember, applied, sized, afterSums, operate, laterStep}
 use Rattle.sheets.specs.Fillable.{Fits}
 use Rattle.sheets.specs.declared.answer.Refusal.{Refusal}
 use Rattle.sheets.specs.declared.answer.Refusal.the-variants.{StepNotAllowed, TooLarge}
-use Rattle.sheets.proofs.Lists.{mem-getD}
+use Rattle.step_tables.proofs.Lists.{mem-getD}
 use Rattle.sheets.proofs.Carried.{fits-decides}
-use Rattle.sheets.proofs.Agreement.{agree-refl, agree-columns, agree-levels, agree-size, sources-agree}
-use Rattle.sheets.proofs.Merge.{sources-stay}
-use Rattle.sheets.proofs.Split.{sources-stay as parts-stay}
-use Rattle.sheets.proofs.Sum.{Comes, sources-come, factor-positive}
+use Rattle.step_tables.proofs.Agreement.{agree-refl, agree-columns, agree-levels, agree-size, sources-agree}
+use Rattle.step_tables.proofs.Merge.{sources-stay}
+use Rattle.step_tables.proofs.Split.{sources-stay as parts-stay}
+use Rattle.step_tables.proofs.Sum.{Comes, sources-come, factor-positive}
 
 -- ---- MERGE
 

@@ -9,10 +9,10 @@ use Rattle.counting.specs.Matrix.{matrixOf, DifferenceMatrix}
 use Rattle.counting.specs.Generator.{generatorOf, Independent}
 use Rattle.order.specs.Order.{Ingredient, table, matrix, generator, Step, Order, All, WithinLimits, written}
 use Rattle.order.specs.Range.{EntriesInRange}
-use Rattle.sheets.specs.Sheet.{SmallEnough}
-use Rattle.sheets.specs.Sum.{rowsOf, adjoinedTable, SumFits}
-use Rattle.sheets.specs.Merge.{MergeFits, MemberSums}
-use Rattle.sheets.specs.Split.{SplitFits}
+use Rattle.step_tables.specs.Sheet.{SmallEnough}
+use Rattle.step_tables.specs.Sum.{rowsOf, adjoinedTable, SumFits}
+use Rattle.step_tables.specs.Merge.{MergeFits, MemberSums}
+use Rattle.step_tables.specs.Split.{SplitFits}
 use Rattle.sheets.specs.Steps.{Operation, sum, merge, split, applied}
 use Rattle.sheets.specs.Naming.{Opens, Does}
 

@@ -1,10 +1,4 @@
 pub mod Buffers
-pub mod Lists
-pub mod Sheet
-pub mod Field
-pub mod Sum
-pub mod Merge
-pub mod Split
 pub mod Refusals
 pub mod Ingredients
 pub mod Steps

@@ -11,7 +11,7 @@ use Rattle.counting.specs.Matrix.{Matrix, matrixOf}
 use Rattle.counting.specs.Generator.{Generator, generatorOf}
 use Rattle.house.specs.House.{HouseNumber, houseOf}
 use Rattle.order.specs.Order.{Ingredient, table, matrix, generator, Step, TAKE, FIELD, SUM, MERGE, SPLIT, Order}
-use Rattle.sheets.specs.Sheet.{takeStep}
+use Rattle.step_tables.specs.Sheet.{takeStep}
 use Rattle.sheets.specs.Steps.{Operation, sum, merge, split, fieldStep}
 
 -- ingredient number i of the list, from 1, exists and is g

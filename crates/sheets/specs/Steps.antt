@@ -10,11 +10,11 @@ use Rattle.counting.specs.Matrix.{Matrix}
 use Rattle.counting.specs.Generator.{Generator}
 use Rattle.order.specs.Order.{Step, TAKE, FIELD, SUM, MERGE, SPLIT, Order}
 use Rattle.sheets.specs.Ingredients.{tableNamed, generatorNamed, matricesNamed, adjoinedNamed}
-use Rattle.sheets.specs.Sheet.{takeStep, smallEnough}
-use Rattle.sheets.specs.Field.{fieldTable}
-use Rattle.sheets.specs.Sum.{levelSum, rowsOf, adjoinedTable, sumFits, sumStep}
-use Rattle.sheets.specs.Merge.{MemberFault, memberFault, mergeFits, mergeStep}
-use Rattle.sheets.specs.Split.{splitFits, splitStep}
+use Rattle.step_tables.specs.Sheet.{takeStep, smallEnough}
+use Rattle.step_tables.specs.Field.{fieldTable}
+use Rattle.step_tables.specs.Sum.{levelSum, rowsOf, adjoinedTable, sumFits, sumStep}
+use Rattle.step_tables.specs.Merge.{MemberFault, memberFault, mergeFits, mergeStep}
+use Rattle.step_tables.specs.Split.{splitFits, splitStep}
 use Rattle.sheets.specs.declared.answer.Refusal.{Refusal}
 use Rattle.sheets.specs.declared.answer.Refusal.the-variants.{StepNotAllowed, PartsDoNotFit, NotTheSum, TooLarge}
 

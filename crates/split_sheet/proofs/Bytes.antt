@@ -11,9 +11,9 @@ use lib.ListN.{length, getD, take, drop, length-append, length-take, length-drop
 use lib.Seq.{take-all, length-take-le, getD-take, getD-drop}
 use Rattle.finite.specs.Lists.{from}
 use Rattle.counting.specs.Table.{Table, columns, levelsOf, tableOf}
-use Rattle.sheets.specs.Sheet.{fromSources}
-use Rattle.sheets.specs.Split.{SplitSource, kept, part, splitPlace, splitSources, splitLevels, splitValue, splitStep}
-use Rattle.sheets.proofs.Lists.{map-getD}
+use Rattle.step_tables.specs.Sheet.{fromSources}
+use Rattle.step_tables.specs.Split.{SplitSource, kept, part, splitPlace, splitSources, splitLevels, splitValue, splitStep}
+use Rattle.step_tables.proofs.Lists.{map-getD}
 use Rattle.layout.specs.Bytes.{runOf, runsOf, sheetIn}
 use Rattle.split_sheet.specs.Splitting.{giveWay, splitRun, runIn, splitRuns}
 use Rattle.layout.specs.declared.Size.{Size}

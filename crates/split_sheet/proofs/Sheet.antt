@@ -9,9 +9,9 @@ use lib.ListN.{length, getD, take, drop, length-take}
 use Rattle.buffers.specs.Put.{Put}
 use Rattle.buffers.proofs.Puts.{put-front, put-length}
 use Rattle.counting.specs.Table.{Table, columns, tableOf, InRange}
-use Rattle.sheets.specs.Sheet.{SmallEnough, fromSources}
-use Rattle.sheets.specs.Split.{SplitFits, splitStep}
-use Rattle.sheets.proofs.Split.{split-columns}
+use Rattle.step_tables.specs.Sheet.{SmallEnough, fromSources}
+use Rattle.step_tables.specs.Split.{SplitFits, splitStep}
+use Rattle.step_tables.proofs.Split.{split-columns}
 use Rattle.layout.specs.Bytes.{runsOf, padded, Holds, Zeros, sheetIn}
 use Rattle.layout.specs.Step.{Ready}
 use Rattle.split_sheet.specs.Splitting.{giveWay, splitRuns}

@@ -4,8 +4,8 @@ use mathlib.Core.Path.{_≡_, sym, _∙_, ap}
 use mathlib.Core.List.{List}
 use Prim.Native.Nat.{ℕ, _+_, _-_, _≤_}
 use Rattle.counting.specs.Table.{Table, columns, tableOf}
-use Rattle.sheets.specs.Sheet.{SmallEnough, fromSources}
-use Rattle.sheets.specs.Split.{SplitFits, splitStep}
+use Rattle.step_tables.specs.Sheet.{SmallEnough, fromSources}
+use Rattle.step_tables.specs.Split.{SplitFits, splitStep}
 use Rattle.sheets.specs.declared.answer.Refusal.the-variants.{TooLarge}
 use Rattle.sheets.specs.declared.answer.Answer.the-variants.{Filled, Refused}
 use Rattle.layout.specs.Bytes.{sheetIn}

@@ -12,8 +12,8 @@ use Rattle.counting.specs.Table.{Table, columns}
 use Rattle.order.specs.Order.{SPLIT, StepLimits}
 use Rattle.order.specs.Grammar.{readOrder}
 use Rattle.order.proofs.Segment.{segment-in}
-use Rattle.sheets.specs.Sheet.{SmallEnough, fromSources, smallEnough}
-use Rattle.sheets.specs.Split.{splitFits, splitStep}
+use Rattle.step_tables.specs.Sheet.{SmallEnough, fromSources, smallEnough}
+use Rattle.step_tables.specs.Split.{splitFits, splitStep}
 use Rattle.sheets.specs.Steps.{filled, refused, provided, split, operation, fits, wrongMember, applied, sized, afterSums, operate, laterStep}
 use Rattle.sheets.specs.declared.answer.Refusal.the-variants.{StepNotAllowed, PartsDoNotFit, TooLarge}
 use Rattle.ingredients.specs.Named.{namedTable, tableIn, Legible, someTable}

@@ -15,7 +15,7 @@ use Rattle.finite.specs.Lists.{from}
 use Rattle.finite.proofs.Lists.{length-from}
 use Rattle.buffers.specs.Put.{Put}
 use Rattle.buffers.proofs.Puts.{put-none, put-join, put-next, put-length}
-use Rattle.sheets.specs.Lists.{allOf}
+use Rattle.step_tables.specs.Lists.{allOf}
 use Rattle.layout.proofs.Bytes.{flatMap-append, getD-from}
 
 -- ---- every element passes a test

@@ -22,9 +22,9 @@ use Rattle.order.specs.Grammar.{readOrder}
 use Rattle.order.specs.declared.Located.{Located}
 use Rattle.order.specs.declared.Located.the-variants.{Table as TableAt, Matrix as MatrixAt, Generator as GeneratorAt, Missing as NothingAt}
 use Rattle.places.specs.Places.{ingredientAt}
-use Rattle.sheets.specs.Lists.{Distinct, allOf, allDifferent}
-use Rattle.sheets.specs.Sum.{modulusOf, serving}
-use Rattle.sheets.proofs.Lists.{allOf-mem, allDifferent-distinct, distinct-append, mem-member, member-mem}
+use Rattle.step_tables.specs.Lists.{Distinct, allOf, allDifferent}
+use Rattle.step_tables.specs.Sum.{modulusOf, serving}
+use Rattle.step_tables.proofs.Lists.{allOf-mem, allDifferent-distinct, distinct-append, mem-member, member-mem}
 use Rattle.ingredients.specs.Standing.{MatrixStands}
 use Rattle.ingredients.proofs.Standing.{matrix-stands}
 use Rattle.layout.specs.Bytes.{zeros}

@@ -16,14 +16,14 @@ use Rattle.finite.proofs.Fits.{run-end}
 use Rattle.galois.specs.Arithmetic.{member}
 use Rattle.counting.specs.Matrix.{Matrix, matrixOf}
 use Rattle.counting.specs.Table.{Table, columns, tableOf}
-use Rattle.sheets.specs.Lists.{allOf}
-use Rattle.sheets.specs.Sheet.{fromSources}
-use Rattle.sheets.specs.Sum.{levelSum, modulusOf, rowsOf, adjoinedTable, SumSource, adjoined, summedWith, sumPlace, sumSources, sumLevels, sumEntry, sumValue, sumStep, sumFits}
+use Rattle.step_tables.specs.Lists.{allOf}
+use Rattle.step_tables.specs.Sheet.{fromSources}
+use Rattle.step_tables.specs.Sum.{levelSum, modulusOf, rowsOf, adjoinedTable, SumSource, adjoined, summedWith, sumPlace, sumSources, sumLevels, sumEntry, sumValue, sumStep, sumFits}
 use Rattle.sheets.specs.Steps.{sum, fits, wrongMember, applied, sized, afterSums, operate}
 use Rattle.sheets.specs.declared.answer.Refusal.the-variants.{PartsDoNotFit}
 use Rattle.sheets.specs.declared.answer.Answer.{Answer}
 use Rattle.sheets.specs.declared.answer.Answer.the-variants.{Refused}
-use Rattle.sheets.proofs.Lists.{map-getD}
+use Rattle.step_tables.proofs.Lists.{map-getD}
 use Rattle.ingredients.specs.Named.{tableIn, someTable}
 use Rattle.ingredients.specs.declared.named.NamedTable.{NamedTable}
 use Rattle.ingredients.specs.declared.named.NamedTable.the-variants.{Own, House, Missing}

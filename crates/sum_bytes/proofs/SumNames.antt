@@ -19,7 +19,7 @@ use Rattle.order.specs.declared.Located.{Located}
 use Rattle.order.specs.declared.Located.the-variants.{Table as TableAt, Matrix as MatrixAt, Generator as GeneratorAt, Missing as NothingAt}
 use Rattle.order.proofs.Segment.{part-left, part-right, number-is, segment-fits}
 use Rattle.places.specs.Places.{ingredientAt}
-use Rattle.sheets.specs.Lists.{allOf}
+use Rattle.step_tables.specs.Lists.{allOf}
 use Rattle.sheets.specs.Ingredients.{matrixNamed, matricesNamed, adjoinedNamed}
 use Rattle.sheets.specs.Steps.{Outcome, sum, provided, operation, operate, laterStep}
 use Rattle.sheets.specs.declared.answer.Refusal.the-variants.{StepNotAllowed}

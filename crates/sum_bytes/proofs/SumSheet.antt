@@ -15,13 +15,13 @@ use Rattle.finite.proofs.Sums.{sum-ext}
 use Rattle.buffers.specs.Put.{Put}
 use Rattle.buffers.proofs.Puts.{put-length}
 use Rattle.counting.specs.Table.{Table, columns, tableOf}
-use Rattle.sheets.specs.Sheet.{LevelsAtMost, SmallEnough, smallEnough}
+use Rattle.step_tables.specs.Sheet.{LevelsAtMost, SmallEnough, smallEnough}
 use Rattle.sheets.specs.Steps.{filled, refused, sized}
 use Rattle.sheets.specs.declared.answer.Refusal.the-variants.{TooLarge}
 use Rattle.sheets.specs.declared.answer.Answer.{Answer}
 use Rattle.sheets.specs.declared.answer.Answer.the-variants.{Filled, Refused}
-use Rattle.sheets.proofs.Lists.{map-getD, length-flatMap}
-use Rattle.sheets.proofs.StepQuestions.{size-decides}
+use Rattle.step_tables.proofs.Lists.{map-getD, length-flatMap}
+use Rattle.step_tables.proofs.StepQuestions.{size-decides}
 use Rattle.layout.specs.Bytes.{runOf, runsOf, padded, Holds, Zeros, sheetIn}
 use Rattle.layout.specs.Step.{Ready, Left}
 use Rattle.sum_bytes.specs.Summing.{EntriesStand, summedLevels, summedCells, summedRun, RowStands, SheetStands, builtRun, builtSheet}

@@ -12,8 +12,8 @@ use Rattle.finite.proofs.Fits.{run-end}
 use Rattle.buffers.specs.Put.{Put}
 use Rattle.buffers.proofs.Puts.{put-join}
 use Rattle.counting.specs.Table.{Table, columns, tableOf, InRange}
-use Rattle.sheets.specs.Sum.{levelSum}
-use Rattle.sheets.proofs.Sum.{factor-positive}
+use Rattle.step_tables.specs.Sum.{levelSum}
+use Rattle.step_tables.proofs.Sum.{factor-positive}
 use Rattle.ingredients.proofs.Parts.{part-length, part-at}
 use Rattle.layout.specs.Bytes.{runOf}
 use Rattle.sum_bytes.specs.Summing.{EntriesStand, servedRow, summedCells, summedRun, RowStands, RunStands, SheetStands, builtRun}

@@ -16,8 +16,8 @@ use Rattle.order.specs.Grammar.{readOrder}
 use Rattle.order.specs.declared.Located.{Located}
 use Rattle.order.specs.declared.Located.the-variants.{Table as TableAt, Matrix as MatrixAt, Generator as GeneratorAt, Missing as NothingAt}
 use Rattle.places.specs.Places.{ingredientAt}
-use Rattle.sheets.specs.Lists.{allOf, allDifferent}
-use Rattle.sheets.specs.Sum.{levelSum, modulusOf, serving}
+use Rattle.step_tables.specs.Lists.{allOf, allDifferent}
+use Rattle.step_tables.specs.Sum.{levelSum, modulusOf, serving}
 use Rattle.ingredients.specs.Named.{tableIn}
 use Rattle.ingredients.specs.declared.named.NamedTable.{NamedTable}
 use Rattle.ingredients.specs.declared.named.NamedTable.the-variants.{Own, House, Missing}

@@ -10,7 +10,7 @@ use Rattle.counting.specs.Table.{columns}
 use Rattle.order.specs.Order.{IngredientNumber}
 use Rattle.order.specs.Grammar.{readOrder}
 use Rattle.order.proofs.Segment.{segment-in}
-use Rattle.sheets.specs.Sheet.{SmallEnough, takeStep}
+use Rattle.step_tables.specs.Sheet.{SmallEnough, takeStep}
 use Rattle.sheets.specs.Steps.{filled, refused, provided, opening, sized, firstStep}
 use Rattle.sheets.specs.declared.answer.Refusal.the-variants.{StepNotAllowed}
 use Rattle.sheets.proofs.Carried.{filled-sized}

@@ -11,7 +11,7 @@ use Rattle.finite.specs.Digits.{numeral}
 use Rattle.finite.specs.Lists.{from}
 use Rattle.finite.proofs.Fits.{run-end}
 use Rattle.galois.specs.Arithmetic.{fieldProduct}
-use Rattle.sheets.specs.Field.{values}
+use Rattle.step_tables.specs.Field.{values}
 use Rattle.generating.specs.LevelSums.{single}
 use Rattle.generating.proofs.FieldPlaces.{levelAt, columnValue, element-in, element-below, single-value, level-more, level-small}
 use Rattle.generating.proofs.multiple_level.Statement.{statement}

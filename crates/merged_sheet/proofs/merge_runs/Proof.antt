@@ -8,8 +8,8 @@ use lib.ListN.{length}
 use Rattle.finite.proofs.Fits.{run-more, run-end}
 use Rattle.buffers.proofs.Puts.{put-length}
 use Rattle.counting.specs.Table.{tableOf}
-use Rattle.sheets.specs.Merge.{mergeStep}
-use Rattle.sheets.specs.Sheet.{fromSources}
+use Rattle.step_tables.specs.Merge.{mergeStep}
+use Rattle.step_tables.specs.Sheet.{fromSources}
 use Rattle.merge_questions.specs.Questions.{membersOf}
 use Rattle.merge_questions.proofs.Runs.{row-end, row-length}
 use Rattle.merged_sheet.proofs.Sheet.{merged-byte, merged-columns, merged-run, fewer-columns, RunsPut, runs-none, runs-next, runs-all}

@@ -8,8 +8,8 @@ use borrow.Author.Tests.{not-true, not-false}
 use lib.ListN.{getD}
 use lib.Seq.{length-take-le}
 use Rattle.counting.specs.Table.{tableOf}
-use Rattle.sheets.specs.Split.{SplitFits, splitFits}
-use Rattle.sheets.proofs.StepQuestions.{split-decides}
+use Rattle.step_tables.specs.Split.{SplitFits, splitFits}
+use Rattle.step_tables.proofs.StepQuestions.{split-decides}
 use Rattle.ingredients.specs.Named.{tableIn}
 use Rattle.ingredients.specs.declared.named.NamedTable.{NamedTable}
 use Rattle.layout.specs.Bytes.{sheetIn}

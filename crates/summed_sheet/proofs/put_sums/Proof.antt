@@ -8,7 +8,7 @@ use lib.ListN.{length, length-map}
 use Rattle.finite.specs.Lists.{AllBelow}
 use Rattle.finite.proofs.Lists.{getD-map}
 use Rattle.buffers.proofs.Puts.{put-length}
-use Rattle.sheets.specs.Sum.{levelSum}
+use Rattle.step_tables.specs.Sum.{levelSum}
 use Rattle.sum_bytes.proofs.Pieces.{Front, front-none, front-room, front-next, front-all}
 use Rattle.summed_sheet.proofs.put_sums.Statement.{statement}
 use Rattle.summed_sheet.proofs.put_sums.Tie as tie

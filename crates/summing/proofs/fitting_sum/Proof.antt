@@ -10,7 +10,7 @@ use lib.ListN.{getD, take}
 use lib.Seq.{length-take-le}
 use Rattle.counting.specs.Matrix.{Matrix, matrixOf}
 use Rattle.counting.specs.Table.{Table, tableOf}
-use Rattle.sheets.specs.Sum.{rowsOf}
+use Rattle.step_tables.specs.Sum.{rowsOf}
 use Rattle.ingredients.specs.Named.{someTable}
 use Rattle.ingredients.specs.Standing.{MatrixStands}
 use Rattle.layout.specs.Bytes.{sheetIn}

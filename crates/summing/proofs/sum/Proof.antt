@@ -12,7 +12,7 @@ use lib.Dec.{ltb}
 use lib.ListN.{getD}
 use Rattle.counting.specs.Table.{Table}
 use Rattle.order.specs.Grammar.{readOrder}
-use Rattle.sheets.specs.Lists.{allOf}
+use Rattle.step_tables.specs.Lists.{allOf}
 use Rattle.ingredients.specs.Named.{namedTable, someTable}
 use Rattle.layout.specs.Bytes.{sheetIn}
 use Rattle.sum_bytes.specs.Summing.{matrixAt, isMissing}

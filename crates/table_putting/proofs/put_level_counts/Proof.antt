@@ -9,7 +9,7 @@ use Rattle.buffers.specs.Put.{Put}
 use Rattle.buffers.proofs.Puts.{put-length}
 use Rattle.counting.specs.Table.{columns, levelsOf}
 use Rattle.ingredients.specs.Named.{tableIn}
-use Rattle.sheets.proofs.Lists.{map-getD}
+use Rattle.step_tables.proofs.Lists.{map-getD}
 use Rattle.layout.proofs.Rows.{values-none, values-next, values-room}
 use Rattle.table_putting.proofs.put_level_counts.Statement.{statement}
 use Rattle.table_putting.proofs.put_level_counts.Tie as tie

@@ -23,8 +23,8 @@ use Rattle.galois.specs.Laws.{Field}
 use Rattle.galois.specs.Combination.{combination}
 use Rattle.galois.proofs.FieldAlgebra.{zero-below, combination-below, zero-coefficients, combination-exchange}
 use Rattle.counting.specs.Generator.{Generator, ElementsInRange, width, IndependentColumns}
-use Rattle.sheets.specs.Field.{columnElements, values}
-use Rattle.sheets.proofs.FieldBalance.{count-equal, count-value}
+use Rattle.step_tables.specs.Field.{columnElements, values}
+use Rattle.step_tables.proofs.FieldBalance.{count-equal, count-value}
 
 -- s times a count c, which is n where a test passes, and elsewhere one in s of n
 share : (s n c : ℕ) (b : Bool) → 0 < s → (T b → c ≡ n) → (¬ T b → s * c ≡ n) → s * c ≡ n + pred s * n * bit b

@@ -22,13 +22,13 @@ use Rattle.finite.proofs.Lists.{length-from}
 use Rattle.galois.specs.Laws.{AbelianGroup}
 use Rattle.counting.specs.Matrix.{Matrix, MatrixInRange}
 use Rattle.counting.specs.Table.{Table, columns, levelsOf, Setting, shows, times, combinations, Apart, Settings, InRange, Even}
-use Rattle.sheets.specs.Lists.{Distinct}
-use Rattle.sheets.specs.Sheet.{fromSources, OrthogonalArray, LevelsAtMost}
-use Rattle.sheets.specs.Sum.{levelSum, PassingMatrix, modulusOf, rowsOf, serving, adjoinedTable, SumSource, summed, adjoined, summedWith, summedColumns, sumPlace, sumSources, sumLevels, sumEntry, sumValue, sumStep, SumFits}
-use Rattle.sheets.proofs.Lists.{length-flatMap, mem-map, mem-flatMap, mem-from, distinct-append, distinct-map, distinct-flatMap, distinct-from}
-use Rattle.sheets.proofs.Columns.{Choice, _at_, chosen, choices, Allowed, EvenChoices, swap-choices, no-settings, Sources, from-array, from-levels}
-use Rattle.sheets.proofs.Separate.{Place, left, right, Differ, Placed, levelsAt, cellAt, Placing, asIs, lefts, rights, length-separate, settings-separate, combinations-separate, shows-separate}
-use Rattle.sheets.proofs.Groups.{GroupDifferences, less, less-below, sum-is, same-less, levels-modulo, modulo-differences}
+use Rattle.step_tables.specs.Lists.{Distinct}
+use Rattle.step_tables.specs.Sheet.{fromSources, OrthogonalArray, LevelsAtMost}
+use Rattle.step_tables.specs.Sum.{levelSum, PassingMatrix, modulusOf, rowsOf, serving, adjoinedTable, SumSource, summed, adjoined, summedWith, summedColumns, sumPlace, sumSources, sumLevels, sumEntry, sumValue, sumStep, SumFits}
+use Rattle.step_tables.proofs.Lists.{length-flatMap, mem-map, mem-flatMap, mem-from, distinct-append, distinct-map, distinct-flatMap, distinct-from}
+use Rattle.step_tables.proofs.Columns.{Choice, _at_, chosen, choices, Allowed, EvenChoices, swap-choices, no-settings, Sources, from-array, from-levels}
+use Rattle.step_tables.proofs.Separate.{Place, left, right, Differ, Placed, levelsAt, cellAt, Placing, asIs, lefts, rights, length-separate, settings-separate, combinations-separate, shows-separate}
+use Rattle.step_tables.proofs.Groups.{GroupDifferences, less, less-below, sum-is, same-less, levels-modulo, modulo-differences}
 
 -- the matrix that serves s levels is one of the list, and s is its p
 serving-mem : (Ds : List Matrix) (s : ℕ) (D : Matrix) → serving Ds s ≡ some D → List·Memᴰ D Ds × (D .modulus ≡ s)

@@ -14,9 +14,9 @@ use Rattle.finite.specs.Lists.{from}
 use Rattle.finite.proofs.Tests.{and-left-comm}
 use Rattle.finite.proofs.Counts.{count-ext, count-all}
 use Rattle.counting.specs.Table.{Table, columns, levelsOf, Setting, shows, times, combinations, Apart, Settings, InRange, Even}
-use Rattle.sheets.specs.Lists.{Distinct}
-use Rattle.sheets.specs.Sheet.{fromSources, OrthogonalArray, LevelsAtMost}
-use Rattle.sheets.proofs.Lists.{mem-getD, distinct-getD, getD-map, map-getD}
+use Rattle.step_tables.specs.Lists.{Distinct}
+use Rattle.step_tables.specs.Sheet.{fromSources, OrthogonalArray, LevelsAtMost}
+use Rattle.step_tables.proofs.Lists.{mem-getD, distinct-getD, getD-map, map-getD}
 
 -- no settings stand in every run
 pub no-settings : (T : Table) → combinations T [] * times T [] ≡ T .runs

@@ -17,7 +17,7 @@ use Rattle.finite.proofs.Tests.{T-and}
 use Rattle.finite.proofs.Sums.{sum-ext, sum-add, sum-zero, sum-first}
 use Rattle.finite.proofs.Counts.{count-one}
 use Rattle.galois.specs.Arithmetic.{member}
-use Rattle.sheets.specs.Lists.{Distinct, allOf, allDifferent}
+use Rattle.step_tables.specs.Lists.{Distinct, allOf, allDifferent}
 
 module _ {A : Type 0} where
   pub mem-getD : (xs : List A) (k : ℕ) (d : A) → k < length xs → List·Memᴰ (getD xs k d) xs

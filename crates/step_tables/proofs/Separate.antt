@@ -11,7 +11,7 @@ use lib.Dec.{eqb}
 use lib.ListN.{length}
 use Rattle.finite.proofs.Tests.{and-left-comm}
 use Rattle.counting.specs.Table.{Table, columns, levelsOf, Setting, shows, combinations, Apart, Settings}
-use Rattle.sheets.proofs.Columns.{Choice, _at_, chosen, choices, AllApart, Allowed}
+use Rattle.step_tables.proofs.Columns.{Choice, _at_, chosen, choices, AllApart, Allowed}
 
 -- a column of the one table or of the other
 pub data Place : Type 0 where

@@ -18,11 +18,11 @@ use Rattle.galois.specs.Laws.{Field}
 use Rattle.galois.proofs.FieldAlgebra.{zero-below}
 use Rattle.counting.specs.Generator.{Generator, ElementsInRange, factors, width, factorColumns, columnsOf, Independent}
 use Rattle.counting.specs.Table.{Table, columns, levelsOf, Setting, shows, times as timesIn, combinations, Apart, Settings, InRange, Even}
-use Rattle.sheets.specs.Lists.{Distinct}
-use Rattle.sheets.specs.Field.{values, fieldTable}
-use Rattle.sheets.specs.Sheet.{OrthogonalArray}
-use Rattle.sheets.proofs.FieldCount.{values-length, values-append, values-below, count-values}
-use Rattle.sheets.proofs.FieldIndependent.{columns-below, independent-factors}
+use Rattle.step_tables.specs.Lists.{Distinct}
+use Rattle.step_tables.specs.Field.{values, fieldTable}
+use Rattle.step_tables.specs.Sheet.{OrthogonalArray}
+use Rattle.step_tables.proofs.FieldCount.{values-length, values-append, values-below, count-values}
+use Rattle.step_tables.proofs.FieldIndependent.{columns-below, independent-factors}
 
 abbrev settingColumns : List Setting → List ℕ
 settingColumns xs = map (λ x. x .column) xs

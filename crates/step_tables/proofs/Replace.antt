@@ -13,9 +13,9 @@ use lib.ListN.{length}
 use Rattle.finite.specs.Sum.{count}
 use Rattle.finite.proofs.Counts.{count-ext, sum-passing, count-through, share-of-none}
 use Rattle.counting.specs.Table.{Table, columns, Setting, shows, times, combinations, Apart, Settings, InRange, Even}
-use Rattle.sheets.specs.Sheet.{fromSources, OrthogonalArray, LevelsAtMost}
-use Rattle.sheets.proofs.Columns.{EvenChoices, Sources, from-array, from-levels}
-use Rattle.sheets.proofs.Separate.{Place, left, right, Differ, levelsAt, cellAt, Placed, Placing, asIs, lefts, rights, length-separate, apart-separate, settings-separate, combinations-separate, shows-separate}
+use Rattle.step_tables.specs.Sheet.{fromSources, OrthogonalArray, LevelsAtMost}
+use Rattle.step_tables.proofs.Columns.{EvenChoices, Sources, from-array, from-levels}
+use Rattle.step_tables.proofs.Separate.{Place, left, right, Differ, levelsAt, cellAt, Placed, Placing, asIs, lefts, rights, length-separate, apart-separate, settings-separate, combinations-separate, shows-separate}
 
 -- each row of T stands in its share of S's runs, together with the levels of fewer than g columns that stay
 abbrev pub RowsEven : ℕ → Table → Table → (ℕ → ℕ) → List ℕ → Type 0

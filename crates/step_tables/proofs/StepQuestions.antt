@@ -16,12 +16,12 @@ use Rattle.finite.proofs.Firsts.{first-none, none-below, found-least}
 use Rattle.galois.specs.Arithmetic.{member}
 use Rattle.counting.specs.Matrix.{Matrix}
 use Rattle.counting.specs.Table.{Table, columns, levelsOf}
-use Rattle.sheets.specs.Lists.{allOf, allDifferent}
-use Rattle.sheets.specs.Sheet.{SmallEnough, smallEnough}
-use Rattle.sheets.specs.Split.{SplitFits, splitFits}
-use Rattle.sheets.specs.Merge.{memberAt, MergeFits, mergeFits, memberSum, MemberSums, MemberFault, memberFaultAt, memberFault, LowestFault}
-use Rattle.sheets.specs.Sum.{modulusOf, rowsOf, SumFits, sumFits}
-use Rattle.sheets.proofs.Lists.{allOf-mem, mem-member, member-mem, allDifferent-distinct}
+use Rattle.step_tables.specs.Lists.{allOf, allDifferent}
+use Rattle.step_tables.specs.Sheet.{SmallEnough, smallEnough}
+use Rattle.step_tables.specs.Split.{SplitFits, splitFits}
+use Rattle.step_tables.specs.Merge.{memberAt, MergeFits, mergeFits, memberSum, MemberSums, MemberFault, memberFaultAt, memberFault, LowestFault}
+use Rattle.step_tables.specs.Sum.{modulusOf, rowsOf, SumFits, sumFits}
+use Rattle.step_tables.proofs.Lists.{allOf-mem, mem-member, member-mem, allDifferent-distinct}
 
 pub size-decides : (S : Table) → T (smallEnough S) ↔ SmallEnough S
 unfolding smallEnough

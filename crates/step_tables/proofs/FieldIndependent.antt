@@ -11,8 +11,8 @@ use Rattle.galois.specs.Laws.{Field}
 use Rattle.galois.specs.Combination.{combination}
 use Rattle.galois.proofs.FieldAlgebra.{zero-below, product-below, left-comm, combination-below, zero-coefficients}
 use Rattle.counting.specs.Generator.{Generator, ElementsInRange, factors, width, factorColumns, columnsOf, IndependentColumns, Independent}
-use Rattle.sheets.specs.Lists.{Distinct}
-use Rattle.sheets.proofs.FieldWithin.{Picked, here, there, Within, nothing, pick, picked-below, increasing-below, around, within-columns}
+use Rattle.step_tables.specs.Lists.{Distinct}
+use Rattle.step_tables.proofs.FieldWithin.{Picked, here, there, Within, nothing, pick, picked-below, increasing-below, around, within-columns}
 
 module _ {s : ℕ} {_⊕_ _⊗_ : ℕ → ℕ → ℕ} (F : Field s _⊕_ _⊗_) (w : ℕ) where
   infixl 65 _⊕_

@@ -6,7 +6,7 @@ use Prim.Native.Nat.{ℕ, _<_}
 use lib.Dec.{eqb, ltb}
 use Rattle.finite.specs.Lists.{from}
 use Rattle.counting.specs.Table.{Table, columns, levelsOf}
-use Rattle.sheets.specs.Sheet.{fromSources}
+use Rattle.step_tables.specs.Sheet.{fromSources}
 
 -- a column of the next sheet is one of the sheet's columns or one of the table's
 pub data SplitSource : Type 0 where

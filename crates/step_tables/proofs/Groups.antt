@@ -12,7 +12,7 @@ use Rattle.galois.specs.Laws.{AbelianGroup}
 use Rattle.galois.proofs.Derived.{add-subtract, subtract-add}
 use Rattle.galois.proofs.Modulo.{modulo}
 use Rattle.counting.specs.Matrix.{Matrix, MatrixInRange, difference, rowDifference, differences, DifferenceMatrix}
-use Rattle.sheets.specs.Sum.{levelSum}
+use Rattle.step_tables.specs.Sum.{levelSum}
 
 module _ (n : ℕ) (plus : ℕ → ℕ → ℕ) (group : AbelianGroup n plus) where
   -- a minus b

@@ -11,8 +11,8 @@ use Rattle.finite.specs.First.{first}
 use Rattle.finite.specs.Lists.{from}
 use Rattle.galois.specs.Arithmetic.{member}
 use Rattle.counting.specs.Table.{Table, columns, levelsOf}
-use Rattle.sheets.specs.Lists.{Distinct, allOf, allDifferent}
-use Rattle.sheets.specs.Sheet.{fromSources}
+use Rattle.step_tables.specs.Lists.{Distinct, allOf, allDifferent}
+use Rattle.step_tables.specs.Sheet.{fromSources}
 
 -- the numbers p that may be merged by
 abbrev pub mergePrimes : List ℕ

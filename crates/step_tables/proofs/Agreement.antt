@@ -10,7 +10,7 @@ use lib.ListN.{length, getD}
 use Rattle.finite.specs.Sum.{count}
 use Rattle.finite.proofs.Counts.{count-ext}
 use Rattle.counting.specs.Table.{Table, columns, levelsOf, tableOf, Setting, shows, times, combinations, Settings, InRange, Even}
-use Rattle.sheets.specs.Sheet.{fromSources, OrthogonalArray, Agree, smallEnough}
+use Rattle.step_tables.specs.Sheet.{fromSources, OrthogonalArray, Agree, smallEnough}
 
 pub agree-refl : (A : Table) → Agree A A
 agree-refl A = record { same-runs = refl; same-levels = refl; same-cells = λ r c h k. refl }

@@ -10,7 +10,7 @@ use native.Mathlib.Omega.{arith}
 use lib.ListN.{length, length-append}
 use Rattle.finite.proofs.Lists.{Below, none, more}
 use Rattle.counting.specs.Generator.{Increasing, columnsOf, factorColumns}
-use Rattle.sheets.specs.Lists.{Distinct}
+use Rattle.step_tables.specs.Lists.{Distinct}
 
 -- l has the members of rest and c, which stands somewhere among them
 pub data Picked (c : ℕ) : List ℕ → List ℕ → Type 0 where

@@ -10,9 +10,9 @@ use lib.Dec.{T, eqb, eqb→eq, ltb, ltb→lt}
 use Rattle.finite.specs.Sum.{sum, count, bit, every}
 use Rattle.finite.proofs.Tests.{all-every}
 use Rattle.galois.specs.Arithmetic.{member}
-use Rattle.sheets.specs.Lists.{allOf}
-use Rattle.sheets.specs.Merge.{mergePrimes}
-use Rattle.sheets.proofs.Lists.{allOf-mem, member-mem}
+use Rattle.step_tables.specs.Lists.{allOf}
+use Rattle.step_tables.specs.Merge.{mergePrimes}
+use Rattle.step_tables.proofs.Lists.{allOf-mem, member-mem}
 
 -- the line of family h on which the point lies
 abbrev pub line : ℕ → ℕ → ℕ → ℕ → ℕ

@@ -14,12 +14,12 @@ use Rattle.finite.specs.Lists.{from}
 use Rattle.finite.proofs.Counts.{count-one, sum-balance}
 use Rattle.finite.proofs.Lists.{length-from}
 use Rattle.counting.specs.Table.{Table, columns, shows, times, combinations, Settings, InRange, Even}
-use Rattle.sheets.specs.Lists.{Distinct}
-use Rattle.sheets.specs.Sheet.{fromSources, OrthogonalArray, LevelsAtMost}
-use Rattle.sheets.specs.Split.{SplitSource, kept, part, splitPlace, splitSources, splitLevels, splitValue, splitStep, SplitFits}
-use Rattle.sheets.proofs.Lists.{length-flatMap, mem-map, mem-flatMap, mem-from, distinct-map, distinct-flatMap, distinct-from}
-use Rattle.sheets.proofs.Separate.{Place, left, right, levelsAt, cellAt}
-use Rattle.sheets.proofs.Replace.{RowsEven, Stays, Replacement, replaced-levels, replaced-array}
+use Rattle.step_tables.specs.Lists.{Distinct}
+use Rattle.step_tables.specs.Sheet.{fromSources, OrthogonalArray, LevelsAtMost}
+use Rattle.step_tables.specs.Split.{SplitSource, kept, part, splitPlace, splitSources, splitLevels, splitValue, splitStep, SplitFits}
+use Rattle.step_tables.proofs.Lists.{length-flatMap, mem-map, mem-flatMap, mem-from, distinct-map, distinct-flatMap, distinct-from}
+use Rattle.step_tables.proofs.Separate.{Place, left, right, levelsAt, cellAt}
+use Rattle.step_tables.proofs.Replace.{RowsEven, Stays, Replacement, replaced-levels, replaced-array}
 
 abbrev placeOf : SplitSource → Place
 placeOf (kept q) = left q

@@ -10,8 +10,8 @@ use Rattle.finite.specs.Lists.{from}
 use Rattle.galois.specs.Arithmetic.{member}
 use Rattle.counting.specs.Matrix.{Matrix, MatrixInRange, DifferenceMatrix}
 use Rattle.counting.specs.Table.{Table, columns, levelsOf}
-use Rattle.sheets.specs.Lists.{Distinct, allOf, allDifferent}
-use Rattle.sheets.specs.Sheet.{fromSources}
+use Rattle.step_tables.specs.Lists.{Distinct, allOf, allDifferent}
+use Rattle.step_tables.specs.Sheet.{fromSources}
 
 -- a plus b modulo p
 unfoldable pub levelSum : ℕ → ℕ → ℕ → ℕ

@@ -18,14 +18,14 @@ use Rattle.finite.proofs.Sums.{sum-ext, sum-add, sum-mul, sum-const}
 use Rattle.finite.proofs.Counts.{count-ext, count-and, count-exchange, count-one, sum-balance}
 use Rattle.galois.specs.Arithmetic.{member}
 use Rattle.counting.specs.Table.{Table, columns, Setting, shows, times, combinations, Apart, Settings, InRange, Even}
-use Rattle.sheets.specs.Lists.{Distinct}
-use Rattle.sheets.specs.Sheet.{fromSources, OrthogonalArray, LevelsAtMost}
-use Rattle.sheets.specs.Merge.{mergePrimes, memberAt, MergeSource, kept, merged, mergePlace, mergeSources, mergeLevels, mergedLevel, mergeValue, mergeStep, MergeFits, memberSum, MemberSums}
-use Rattle.sheets.proofs.Lists.{length-flatMap, count-member, mem-member, mem-getD, mem-flatMap, mem-from, distinct-flatMap, distinct-from}
-use Rattle.sheets.proofs.Columns.{no-settings}
-use Rattle.sheets.proofs.Separate.{Place, left, right, levelsAt, cellAt}
-use Rattle.sheets.proofs.Replace.{RowsEven, Stays, Replacement, replaced-levels, replaced-array}
-use Rattle.sheets.proofs.Plane.{line, line-below, common, Plane, merge-positive, merge-plane}
+use Rattle.step_tables.specs.Lists.{Distinct}
+use Rattle.step_tables.specs.Sheet.{fromSources, OrthogonalArray, LevelsAtMost}
+use Rattle.step_tables.specs.Merge.{mergePrimes, memberAt, MergeSource, kept, merged, mergePlace, mergeSources, mergeLevels, mergedLevel, mergeValue, mergeStep, MergeFits, memberSum, MemberSums}
+use Rattle.step_tables.proofs.Lists.{length-flatMap, count-member, mem-member, mem-getD, mem-flatMap, mem-from, distinct-flatMap, distinct-from}
+use Rattle.step_tables.proofs.Columns.{no-settings}
+use Rattle.step_tables.proofs.Separate.{Place, left, right, levelsAt, cellAt}
+use Rattle.step_tables.proofs.Replace.{RowsEven, Stays, Replacement, replaced-levels, replaced-array}
+use Rattle.step_tables.proofs.Plane.{line, line-below, common, Plane, merge-positive, merge-plane}
 
 abbrev placeOf : MergeSource → Place
 placeOf (kept q) = left q

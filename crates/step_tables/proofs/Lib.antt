@@ -1,0 +1,16 @@
+pub mod Lists
+pub mod Columns
+pub mod Separate
+pub mod Replace
+pub mod Groups
+pub mod Plane
+pub mod Sum
+pub mod Merge
+pub mod Split
+pub mod FieldBalance
+pub mod FieldWithin
+pub mod FieldIndependent
+pub mod FieldCount
+pub mod FieldTable
+pub mod StepQuestions
+pub mod Agreement
