@@ -3,3 +3,4 @@ pub mod Fields
 pub mod Modulo
 pub mod Tests
 pub mod FieldAlgebra
+pub mod Tables

@@ -1,3 +1,4 @@
 pub mod Arithmetic
 pub mod Laws
 pub mod Combination
+pub mod Operands

@@ -138,7 +138,7 @@ fn level_sums(s: u8, width: usize) -> [u8; 4096]
         let x = place / most;
         let y = place % most;
         let before = sums[x / base * most + y / base];
-        sums[place] = before * s + field_tables::sum(s, (x % base) as u8, (y % base) as u8);
+        sums[place] = before * s + field_sums::sum(s, (x % base) as u8, (y % base) as u8);
         place += 1;
     }
     sums
@@ -285,7 +285,7 @@ fn multiple_level(
     let mut level = 0;
     let mut i = 0;
     while i < width {
-        let product = field_tables::product(g.s, digit, list[start + i] as u8);
+        let product = field_products::product(g.s, digit, list[start + i] as u8);
         level = level * g.s + product;
         i += 1;
     }

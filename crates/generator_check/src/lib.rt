@@ -263,7 +263,7 @@ fn combine(entries: &[u8], start: usize, end: usize, s: u8, so_far: Combining) -
     while start < at {
         at -= 1;
         let coefficient = (rest % s as usize) as u8;
-        sum = field_tables::sum(s, field_tables::product(s, coefficient, entries[at]), sum);
+        sum = field_sums::sum(s, field_products::product(s, coefficient, entries[at]), sum);
         rest /= s as usize;
     }
     Combining { rest, sum }

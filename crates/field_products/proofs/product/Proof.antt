@@ -1,12 +1,12 @@
--- `field_tables::product` meets its contract: antt computes that each table is the arithmetic's, and one law reads it at two elements.
+-- `field_products::product` meets its contract: antt computes that each table is the arithmetic's, and one law reads it at two elements.
 -- Assumes nothing.
 use mathlib.Core.Path.{refl}
 use native.Mathlib.Omega.{arith}
 use borrow.Author.Needs.{needs}
 use Rattle.galois.specs.Arithmetic.{fieldProduct}
-use Rattle.field_tables.proofs.Tables.{entry, nine}
-use Rattle.field_tables.proofs.product.Statement.{statement}
-use Rattle.field_tables.proofs.product.Tie as tie
+use Rattle.galois.proofs.Tables.{entry, nine}
+use Rattle.field_products.proofs.product.Statement.{statement}
+use Rattle.field_products.proofs.product.Tie as tie
 
 -- for each arm that its two indices are in range, and then what each arm returns
 pub product-spec : {M : Type 1} → statement M

@@ -1,12 +1,12 @@
--- `field_tables::sum` meets its contract: antt computes that each table is the arithmetic's, and one law reads it at two elements.
+-- `field_sums::sum` meets its contract: antt computes that each table is the arithmetic's, and one law reads it at two elements.
 -- Assumes nothing.
 use mathlib.Core.Path.{refl}
 use native.Mathlib.Omega.{arith}
 use borrow.Author.Needs.{needs}
 use Rattle.galois.specs.Arithmetic.{fieldSum}
-use Rattle.field_tables.proofs.Tables.{entry, nine}
-use Rattle.field_tables.proofs.sum.Statement.{statement}
-use Rattle.field_tables.proofs.sum.Tie as tie
+use Rattle.galois.proofs.Tables.{entry, nine}
+use Rattle.field_sums.proofs.sum.Statement.{statement}
+use Rattle.field_sums.proofs.sum.Tie as tie
 
 -- for each arm that its two indices are in range, and then what each arm returns
 pub sum-spec : {M : Type 1} → statement M

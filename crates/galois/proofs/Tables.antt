@@ -10,9 +10,9 @@ use native.Mathlib.Omega.{arith}
 use lib.Dec.{T, eqb}
 use lib.ListN.{getD}
 use mir.Facts.{or-yes, eqb-yes}
 use Rattle.galois.specs.Arithmetic.{fieldSize}
 use Rattle.galois.proofs.Tests.{otherwise}
-use Rattle.field_tables.specs.Operands.{Operands}
+use Rattle.galois.specs.Operands.{Operands}
 
 module _ {A : Type 0} where
   -- f 0, f 1, .., f (n − 1)
