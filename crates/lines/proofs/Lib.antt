@@ -1,3 +1,3 @@
 pub mod Cases
-pub mod Rows
+pub mod Pairs
 pub mod Runs

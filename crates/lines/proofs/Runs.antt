@@ -8,7 +8,8 @@ use lib.ListN.{length, take, drop, length-append, length-take, length-drop}
 use lib.Seq.{getD-take, getD-drop, drop-drop}
 use Rattle.buffers.specs.Put.{Bytes}
 use Rattle.decimals.specs.Decimals.{decimalDigits}
-use Rattle.lines.specs.Lines.{spaced, line, runLines}
+use Rattle.rows.specs.Rows.{spaced, line}
+use Rattle.lines.specs.Lines.{runLines}
 use Rattle.decimals.proofs.Decimals.{decimal-byte}
 
 next : (runs m : ℕ) → m + runs * m ≡ suc runs * m

@@ -4,20 +4,12 @@ ghost use Prim.Native.Nat.{_+_, _*_, _≤_, _<_};
 ghost use mathlib.Core.List.{[], _∷_, _++_};
 ghost use lib.ListN.{length};
 ghost use Rattle.buffers.specs.Put.{Put};
-ghost use Rattle.decimals.specs.Decimals.{decimalDigits};
-ghost use Rattle.lines.specs.Lines.{spaced, line, refusedLine};
+ghost use Rattle.rows.specs.Rows.{spaced, line};
+ghost use Rattle.lines.specs.Lines.{refusedLine};
 use buffers::put_byte;
 use buffers::put_bytes;
 use decimals::put_number;
-
-// A space and a number.
-fn put_spaced(buf: &mut [u8], at: usize, value: usize) -> usize
-    requires { ⌜ at + length (decimalDigits value) < length (now buf) ⌝ }
-    ensures { λ r. ⌜ Put (now (buf .entry)) at (32 ∷ decimalDigits value) (now (buf .exit)) r ⌝ }
-{
-    let place = put_byte(buf, at, b' ');
-    put_number(buf, place, value)
-}
+use rows::put_spaced;
 
 // The line of two numbers, as "N m".
 pub fn put_pair(buf: &mut [u8], at: usize, first: usize, second: usize) -> usize
@@ -29,21 +21,7 @@ pub fn put_pair(buf: &mut [u8], at: usize, first: usize, second: usize) -> usize
     put_byte(buf, after_second, b'\n')
 }
 
-// The end of a line: each of some byte-sized numbers with a space before it, and the line feed.
-fn end_with_cells(buf: &mut [u8], at: usize, cells: &[u8]) -> usize
-    requires { ⌜ at + 4 * length (now cells) < length (now buf) ⌝ }
-    ensures { λ r. ⌜ Put (now (buf .entry)) at (spaced (now (cells .entry)) ++ (10 ∷ [])) (now (buf .exit)) r ⌝ }
-{
-    let mut place = at;
-    let mut i = 0;
-    while i < cells.len() {
-        place = put_spaced(buf, place, cells[i] as usize);
-        i += 1;
-    }
-    put_byte(buf, place, b'\n')
-}
-
-// The same with numbers of any size.
+// The end of a line: each of some numbers with a space before it, and the line feed.
 fn end_with_numbers(buf: &mut [u8], at: usize, numbers: &[usize]) -> usize
     requires { ⌜ at + 21 * length (now numbers) < length (now buf) ⌝ }
     ensures { λ r. ⌜ Put (now (buf .entry)) at (spaced (now (numbers .entry)) ++ (10 ∷ [])) (now (buf .exit)) r ⌝ }
@@ -55,18 +33,6 @@ fn end_with_numbers(buf: &mut [u8], at: usize, numbers: &[usize]) -> usize
         i += 1;
     }
     put_byte(buf, place, b'\n')
-}
-
-// The line of some byte-sized numbers, as the level counts or a run.
-pub fn put_row(buf: &mut [u8], at: usize, cells: &[u8]) -> usize
-    requires { ⌜ at + 4 * length (now cells) < length (now buf) ⌝ }
-    ensures { λ r. ⌜ Put (now (buf .entry)) at (line (now (cells .entry))) (now (buf .exit)) r ⌝ }
-{
-    if cells.len() == 0 {
-        return put_byte(buf, at, b'\n');
-    }
-    let after_first = put_number(buf, at, cells[0] as usize);
-    end_with_cells(buf, after_first, &cells[1..])
 }
 
 // The line of a refusal: its number and six details.

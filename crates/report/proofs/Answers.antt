@@ -11,9 +11,10 @@ use lib.Seq.{length-take-le}
 use Rattle.buffers.specs.Put.{Put, Bytes}
 use Rattle.buffers.proofs.Puts.{put-none, put-join, put-length}
 use Rattle.decimals.specs.Decimals.{decimalDigits}
-use Rattle.lines.specs.Lines.{line, refusedLine, runLines, printed}
+use Rattle.rows.specs.Rows.{line}
+use Rattle.lines.specs.Lines.{refusedLine, runLines, printed}
 use Rattle.decimals.proofs.Decimals.{decimal-length}
-use Rattle.lines.proofs.Rows.{line-pair}
+use Rattle.lines.proofs.Pairs.{line-pair}
 use Rattle.lines.proofs.Runs.{runs-snoc, take-small, line-length, runs-length}
 use Rattle.sheets.specs.Refusals.{numbered}
 use Rattle.sheets.specs.declared.answer.Refusal.{Refusal}

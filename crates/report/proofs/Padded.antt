@@ -7,7 +7,8 @@ use native.Mathlib.Nat.{suc-mul}
 use native.Mathlib.Omega.{arith}
 use lib.ListN.{length, take, drop, length-drop}
 use lib.Seq.{take-at}
-use Rattle.lines.specs.Lines.{line, runLines, printed}
+use Rattle.rows.specs.Rows.{line}
+use Rattle.lines.specs.Lines.{runLines, printed}
 use Rattle.sheets.specs.declared.answer.Answer.the-variants.{Filled}
 use Rattle.report.specs.Report.{answerPrinted}
 

@@ -20,7 +20,8 @@ use Rattle.sheets.specs.Outcome.{rangeRefusal, ingredientRefusal, ingredientsRe
 use Rattle.sheets.proofs.Starred.{Example, computed, examples, starred}
 use Rattle.words.specs.Words.{isGap, words, isDigit, decimal, isNumber, reading}
 use Rattle.decimals.specs.Decimals.{decimalDigits}
-use Rattle.lines.specs.Lines.{line, printed}
+use Rattle.rows.specs.Rows.{line}
+use Rattle.lines.specs.Lines.{printed}
 use Rattle.report.specs.Report.{outcomePrinted, output}
 
 abbrev pub input : List ℕ

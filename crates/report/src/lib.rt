@@ -7,8 +7,8 @@ ghost use Rattle.lines.specs.Lines.{runLines, printed};
 ghost use Rattle.report.specs.Report.{refusalLine, answerPrinted, answerRoom, Printable, TableInBuffers};
 use lines::put_pair;
 use lines::put_refusal;
-use lines::put_row;
 use numbering::numbers_of;
+use rows::put_row;
 use sheets::answer::Answer;
 use sheets::answer::Refusal;
 

@@ -3,7 +3,8 @@ use mathlib.Core.Path.{_≡_, refl}
 use mathlib.Core.List.{[], _∷_}
 use Rattle.words.specs.Words.{isGap, words, isDigit, decimal, isNumber, numbers, reading}
 use Rattle.decimals.specs.Decimals.{decimalDigits}
-use Rattle.lines.specs.Lines.{line, refusedLine, printed}
+use Rattle.rows.specs.Rows.{line}
+use Rattle.lines.specs.Lines.{refusedLine, printed}
 
 -- "0 2 1 101 4 2 1 2 3" and a line feed.
 input : reading (48 ∷ 32 ∷ 50 ∷ 32 ∷ 49 ∷ 32 ∷ 49 ∷ 48 ∷ 49 ∷ 32 ∷ 52 ∷ 32 ∷ 50 ∷ 32 ∷ 49 ∷ 32 ∷ 50 ∷ 32 ∷ 51 ∷ 10 ∷ []) ≡ numbers (0 ∷ 2 ∷ 1 ∷ 101 ∷ 4 ∷ 2 ∷ 1 ∷ 2 ∷ 3 ∷ [])

@@ -6,7 +6,7 @@ use borrow.Author.Needs.{needs}
 use lib.ListN.{length, getD}
 use Rattle.decimals.specs.Decimals.{decimalDigits}
 use Rattle.buffers.proofs.Puts.{put-join, put-length}
-use Rattle.lines.proofs.Rows.{First, first-none, first-all, first-end, first-room, first-next}
+use Rattle.rows.proofs.Rows.{First, first-none, first-all, first-end, first-room, first-next}
 use Rattle.lines.proofs.end_with_numbers.Statement.{statement}
 use Rattle.lines.proofs.end_with_numbers.Tie as tie
 use Rattle.decimals.proofs.Decimals.{decimal-word}

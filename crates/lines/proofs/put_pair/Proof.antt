@@ -2,7 +2,7 @@
 use borrow.Author.Needs.{needs}
 use native.Mathlib.Omega.{arith}
 use Rattle.buffers.proofs.Puts.{put-join}
-use Rattle.lines.proofs.Rows.{line-pair}
+use Rattle.lines.proofs.Pairs.{line-pair}
 use Rattle.lines.proofs.put_pair.Statement.{statement}
 use Rattle.lines.proofs.put_pair.Tie as tie
 use Rattle.decimals.proofs.Decimals.{decimal-word}

@@ -1,4 +1,4 @@
--- Laws of the lines in specs/Lines.antt: a number more, and the lines as the parts that are put one after the other.
+-- Laws of the lines in specs/Rows.antt: a number more, and the lines as the parts that are put one after the other.
 use mathlib.Core.Path.{_≡_, refl, sym, _∙_, ap}
 use mathlib.Core.List.{List, [], _∷_, _++_, append-assoc, append-nil}
 use Prim.Native.Nat.{ℕ, _+_, _*_, _-_, _≤_, _<_, zero-le}
@@ -9,7 +9,7 @@ use lib.ListN.{length, getD, take, drop, length-drop}
 use lib.Seq.{take-suc, take-all}
 use Rattle.buffers.specs.Put.{Put}
 use Rattle.decimals.specs.Decimals.{decimalDigits}
-use Rattle.lines.specs.Lines.{spaced, line}
+use Rattle.rows.specs.Rows.{spaced, line}
 use Rattle.buffers.proofs.Puts.{put-none, put-join, put-length}
 
 spaced-snoc : (ns : List ℕ) (n : ℕ) → spaced (ns ++ (n ∷ [])) ≡ spaced ns ++ (32 ∷ decimalDigits n)
@@ -47,10 +47,6 @@ module _ {w : ℕ} {ns a : List ℕ} {i n : ℕ} {b : List ℕ} {j : ℕ} (f : F
           put = rw (add-one, take-suc ns n 0 h, spaced-snoc) (put-join (f .put) q);
           small = rw add-one (omega (arith, f .small, q .ends, mul-suc w n));
         }
-
-pub line-pair : (m n : ℕ) → line (m ∷ n ∷ []) ≡ decimalDigits m ++ (32 ∷ decimalDigits n) ++ (10 ∷ [])
-unfolding line
-line-pair m n = rw (append-nil (32 ∷ decimalDigits n))
 
 pub line-more : (n : ℕ) (ns : List ℕ) → line (n ∷ ns) ≡ decimalDigits n ++ (spaced ns ++ (10 ∷ []))
 unfolding line

@@ -1,4 +1,4 @@
--- `lines::end_with_cells` meets its contract. The invariant: the first `i` numbers are put, up to `place`, each in at most 4 bytes.
+-- `rows::end_with_cells` meets its contract. The invariant: the first `i` numbers are put, up to `place`, each in at most 4 bytes.
 use mathlib.Core.Path.{_∙_}
 use Prim.Native.Nat.{_-_, _<_, suc-le-suc}
 use native.Mathlib.Omega.{arith}
@@ -6,9 +6,9 @@ use borrow.Author.Needs.{needs}
 use lib.ListN.{length, getD}
 use Rattle.decimals.specs.Decimals.{decimalDigits}
 use Rattle.buffers.proofs.Puts.{put-join, put-length}
-use Rattle.lines.proofs.Rows.{First, first-none, first-all, first-end, first-room, first-next}
-use Rattle.lines.proofs.end_with_cells.Statement.{statement}
-use Rattle.lines.proofs.end_with_cells.Tie as tie
+use Rattle.rows.proofs.Rows.{First, first-none, first-all, first-end, first-room, first-next}
+use Rattle.rows.proofs.end_with_cells.Statement.{statement}
+use Rattle.rows.proofs.end_with_cells.Tie as tie
 use Rattle.decimals.proofs.Decimals.{decimal-byte}
 
 abbrev Inv-loop : tie.InvT-loop

@@ -1,8 +1,8 @@
--- `lines::put_spaced` meets its contract: the space and then the digits.
+-- `rows::put_spaced` meets its contract: the space and then the digits.
 use borrow.Author.Needs.{needs}
 use Rattle.buffers.proofs.Puts.{put-join}
-use Rattle.lines.proofs.put_spaced.Statement.{statement}
-use Rattle.lines.proofs.put_spaced.Tie as tie
+use Rattle.rows.proofs.put_spaced.Statement.{statement}
+use Rattle.rows.proofs.put_spaced.Tie as tie
 
 put-byte-requires : tie.Need-put-byte-requires
 put-byte-requires c κs = search needs

@@ -1,9 +1,9 @@
--- `lines::put_row` meets its contract: the first number, where there is one, and the end of the line.
+-- `rows::put_row` meets its contract: the first number, where there is one, and the end of the line.
 use borrow.Author.Needs.{needs}
 use native.Mathlib.Omega.{arith}
-use Rattle.lines.proofs.Rows.{row-none, row-some, rest-length}
-use Rattle.lines.proofs.put_row.Statement.{statement}
-use Rattle.lines.proofs.put_row.Tie as tie
+use Rattle.rows.proofs.Rows.{row-none, row-some, rest-length}
+use Rattle.rows.proofs.put_row.Statement.{statement}
+use Rattle.rows.proofs.put_row.Tie as tie
 use Rattle.decimals.proofs.Decimals.{decimal-byte}
 
 put-byte-requires : tie.Need-put-byte-requires
