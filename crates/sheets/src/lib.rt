@@ -1,2 +1,3 @@
-// The sheet and the five kinds of steps, as definitions, and why each step leaves an orthogonal array.
+// What an order comes to, as definitions: the ingredients that its steps name, the outcome of a list, and the conditions under which it is filled, with
+// the theorem that every sheet on the way is an orthogonal array. Its types are the code's answer; there is no function.
 pub mod answer;
