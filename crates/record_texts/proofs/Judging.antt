@@ -1,4 +1,4 @@
--- What is judgedAs of one record: the laws that the functions of records/src/judge.rt rest on.
+-- What is judged of one record: the laws that the functions of records/src/judge.rt rest on.
 -- Assumes nothing.
 use mathlib.Core.Path.{_≡_, refl, sym, _∙_, ap}
 use mathlib.Core.Logic.{_↔_}
@@ -144,7 +144,7 @@ pub judged-alike : (list stored : List ℕ) {n n′ m m′ k k′ : ℕ} → n �
     → r ≡ judgedAs (planned list n′ m′ k′) stored
 judged-alike list stored e f g r-is = rw (e, f, g) at r-is
 
--- What `plan` promises: all bytes after those of the answer are zero, and what is judgedAs is what the outcome prints.
+-- What `plan` promises: all bytes after those of the answer are zero, and what is judged is what the outcome prints.
 module _ (n m : ℕ) where
   outcome-rest : (o : Outcome) → restZero (answerTo o) (levelBytes m o) (tableBytes n o) ≡ true
   unfolding restZero answerTo levelBytes tableBytes padded

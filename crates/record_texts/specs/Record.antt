@@ -42,12 +42,12 @@ unfoldable pub answerNumber : Answer → ℕ
 answerNumber (Filled runs columns) = 0
 answerNumber (Refused why) = getD (numbered why) 0 0
 
--- What is judgedAs of an order that comes to an outcome, where these bytes are stored after it: they are the same if they are "=", the end of the line,
+-- What is judged of an order that comes to an outcome, where these bytes are stored after it: they are the same if they are "=", the end of the line,
 -- and what the program `planner` prints.
 unfoldable pub judgedAs : Outcome → List ℕ → Judged
 judgedAs o stored = record { number = answerNumber (answerTo o); same = sameBytes stored (61 ∷ 10 ∷ outcomePrinted o) }
 
--- What is judgedAs of a record: its order goes up to "=", byte 61, or to the end where there is none, and then the record is not the same.
+-- What is judged of a record: its order goes up to "=", byte 61, or to the end where there is none, and then the record is not the same.
 unfoldable pub judged : List ℕ → Lengths → Judged
 judged bytes lengths =
     let end = firstPlace 61 bytes in

@@ -1,4 +1,4 @@
--- `construction::carry::carry_or_clear` meets its contract: what the steps leave, and zeros where one refuses.
+-- `carrying::carry_or_clear` meets its contract: what the steps leave, and zeros where one refuses.
 use borrow.Author.Needs.{needs}
 use Rattle.promise.proofs.Promises.{settled-filled, settled-refused}
 use Rattle.carrying.proofs.carry_or_clear.Statement.{statement}

@@ -1,4 +1,4 @@
--- `construction::carry::carry_out` meets its contract. The invariant: the sheet in hand is in the buffers, and from it the steps that are left come
+-- `carrying::carry_out` meets its contract. The invariant: the sheet in hand is in the buffers, and from it the steps that are left come
 -- to what all steps come to, and end with the sheet with which all steps end.
 use mathlib.Core.Path.{_≡_, _∙_}
 use mathlib.Core.List.{List}

@@ -1,4 +1,4 @@
--- `construction::carry::allowed` meets its contract: the number of the step decides which comparison is asked.
+-- `stepping::allowed` meets its contract: the number of the step decides which comparison is asked.
 use borrow.Author.Tests.{eq-eqb, ne-eqb}
 use Rattle.stepping.specs.Stepping.{kindAllowed}
 use Rattle.stepping.proofs.allowed.Statement.{statement}

@@ -1,4 +1,4 @@
--- `construction::carry::proceed` meets its contract: the step of that number of the list is carried out on the sheet in hand.
+-- `stepping::proceed` meets its contract: the step of that number of the list is carried out on the sheet in hand.
 use borrow.Author.Needs.{needs}
 use mathlib.Core.Path.{refl, sym, _∙_}
 use Rattle.layout.specs.Step.{Left}

@@ -1,4 +1,4 @@
--- `construction::carry::step` meets its contract: the kind that is allowed chooses the step that is carried out, any other is refused.
+-- `stepping::step` meets its contract: the kind that is allowed chooses the step that is carried out, any other is refused.
 use mathlib.Core.Path.{_≡_, refl, sym, _∙_}
 use mathlib.Core.Logic.{_≢_}
 use mathlib.Core.Bool.{true}
