@@ -1,29 +1,21 @@
 -- From one step to the next: the steps that are left, on the sheet in the buffers, come to what all steps come to.
 -- Assumes nothing.
 use mathlib.Core.Path.{_≡_, refl, sym, _∙_, ap, ap₂, subst}
-use mathlib.Core.Logic.{_≢_, _⊎_, inl, inr, ⊎-elim, by-cases}
-use mathlib.Core.Bool.{Bool, true, false, true≢false}
 use mathlib.Core.List.{List, [], _∷_}
 use mathlib.Core.Option.{Option, none, some}
 use Prim.Native.Nat.{ℕ, zero, suc, _+_, _-_, _≤_, _<_}
 use native.Mathlib.Nat.{le-trans}
-use native.Mathlib.Decide.{ℕ-discrete, decLt}
 use native.Mathlib.Omega.{arith}
-use borrow.Author.Tests.{leb-false, lt-leb, eq-eqb, ne-eqb}
-use lib.Dec.{eqb, leb, lit≤}
+use borrow.Author.Tests.{ne-eqb}
 use lib.ListN.{length, drop, getElem?, drop-of-length-le}
 use Rattle.counting.specs.Table.{Table, columns}
-use Rattle.order.specs.Order.{Order, Step, TAKE, FIELD, SUM, MERGE, SPLIT, StepLimits}
-use Rattle.order.specs.Reader.{when}
-use Rattle.order.specs.Answers.{kindOf}
+use Rattle.order.specs.Order.{Order, Step, StepLimits}
 use Rattle.order.specs.Grammar.{readOrder}
 use Rattle.order.proofs.OrderLaw.{reads-iff}
-use Rattle.places.specs.Places.{stepAt, stepIn, stepCount, operandsOf}
-use Rattle.places.specs.declared.Placed.the-variants.{Step as StepAt, Missing}
-use Rattle.places.proofs.Stands.{step-described}
+use Rattle.places.specs.Places.{stepCount}
 use Rattle.sheets.specs.Buffers.{Suffices}
 use Rattle.step_tables.specs.Sheet.{LevelsAtMost, Sound, SmallEnough, Agree}
-use Rattle.sheets.specs.Steps.{Outcome, filled, refused, proceed, provided, opening, operation, sized, firstStep, laterStep, laterSteps, allSteps}
+use Rattle.sheets.specs.Steps.{Outcome, filled, refused, proceed, provided, firstStep, laterStep, laterSteps, allSteps}
 use Rattle.sheets.specs.declared.answer.Refusal.{Refusal}
 use Rattle.sheets.specs.declared.answer.Refusal.the-variants.{StepNotAllowed}
 use Rattle.sheets.specs.declared.answer.Answer.{Answer}
@@ -34,12 +26,12 @@ use Rattle.sheets.proofs.Ingredients.{all-at}
 use Rattle.sheets.proofs.Sheets.{first-filled, later-filled}
 use Rattle.sheets.proofs.StepAgreement.{AgreeOutcome, both-filled, both-refused, provided-agree, later-agree}
 use Rattle.layout.specs.Bytes.{Holds, Zeros, LongEnough, sheetIn}
-use Rattle.layout.specs.Step.{Readable, Stands, Ready, firstIn, laterIn, Left}
+use Rattle.layout.specs.Step.{Readable, Ready, Left}
 use Rattle.stepping.specs.Stepping.{Prepared, stepOn, inHand, proceedIn}
 use Rattle.carrying.specs.Carrying.{Passing, handAfter, lastHand, allIn, lastIn, handRuns, handLevels}
 use Rattle.layout.specs.declared.Size.{Size}
 use Rattle.promise.proofs.Promises.{refused-unfilled}
-use Rattle.layout.proofs.Operands.{in-order, first-in, later-in, stands-step}
+use Rattle.layout.proofs.Operands.{in-order}
 use Rattle.layout.proofs.Sheets.{holds-agrees, agree-holds}
 
 -- ---- on the way

@@ -1,15 +1,12 @@
 -- `sum_questions::serve` meets its contract. The invariant: the first `i` matrices fit together and are entered into the arrays.
 use mathlib.Core.Path.{_≡_, sym, _∙_, ap}
 use Prim.Native.Nat.{_-_}
-use Prim.Native.Nat.{_-_}
 use native.Mathlib.Omega.{arith}
 use borrow.Author.Needs.{needs}
 use lib.ListN.{length}
 use Rattle.ingredients.specs.Standing.{MatrixStands}
 use Rattle.layout.proofs.Operands.{list-short}
 use Rattle.sum_bytes.proofs.Serving.{place-stands, SoFar, so-far-none, so-far-next, so-far-all, rows-differ, p-again, untrue}
-use Rattle.layout.proofs.Operands.{list-short}
-use Rattle.sum_bytes.proofs.Serving.{place-stands, SoFar, so-far-none, so-far-next, so-far-all, rows-differ, p-again}
 use Rattle.sum_questions.proofs.serve.Statement.{statement}
 use Rattle.sum_questions.proofs.serve.Tie as tie
 
@@ -54,13 +51,12 @@ returns c = (
   λ e. untrue e,
 )
 
+-- the matrix that is found stands in the list
 stands : (c : tie.Else1 Inv-loop μ-loop)
     → MatrixStands (c .before .before .before .before .before .before .before .before .before .before .args .list .now) (c .before .before .matrix-named .result .rows) (c .before .before .matrix-named .result .columns) (c .before .before .matrix-named .result .p) (c .before .before .matrix-named .result .start)
 stands c =
     let start = c .before .before .before .before .before .before .before .before .before .before in
     place-stands _ (start .pre .0) _ _ (c .before .before .matrix-named .ensures) (omega (arith, c .if1 .left, start .pre .1 .0))
-
--- the matrix that is found stands in the list
 
 slice-read-if2 : tie.Need-slice-read-if2 Inv-loop μ-loop
 slice-read-if2 c = omega (arith, stands (c .before) .modulus-limits .1, c .before .before .before .before .before .before .loop .inv .serves .stand .widths-full)

@@ -3,7 +3,6 @@ use Prim.Native.Nat.{_+_, _*_, _/_, _%_, _≤_, _-_}
 use native.Mathlib.Omega.{arith}
 use borrow.Author.Needs.{needs}
 use lib.ListN.{length, take, drop}
-use lib.ListN.{length}
 use Rattle.finite.specs.Lists.{from}
 use Rattle.buffers.proofs.Puts.{put-join, put-length}
 use Rattle.counting.specs.Table.{columns}
@@ -11,7 +10,6 @@ use Rattle.ingredients.specs.Named.{tableIn}
 use Rattle.sum_bytes.specs.Summing.{summedRun, builtRun, Adjoins}
 use Rattle.sum_bytes.proofs.Pieces.{Pieces, pieces-none, below-room, below-next, below-all}
 use Rattle.sum_bytes.proofs.Sums.{rows-positive, run-below, row-below, row-stands, run-stands, run-within, part-same, built-length}
-use Rattle.sum_bytes.proofs.Sums.{rows-positive, run-below, row-below, row-stands, run-stands, run-within, part-same}
 use Rattle.summed_sheet.proofs.put_runs.Statement.{statement}
 use Rattle.summed_sheet.proofs.put_runs.Tie as tie
 

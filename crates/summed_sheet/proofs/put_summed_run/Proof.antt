@@ -1,6 +1,5 @@
 -- `summed_sheet::put_summed_run` meets its contract. The invariant: the sums of the first `j` columns are put, up to `place`.
 use Prim.Native.Nat.{ℕ, _<_, _-_}
-use Prim.Native.Nat.{_<_, _-_}
 use native.Mathlib.Omega.{arith}
 use borrow.Author.Needs.{needs}
 use lib.ListN.{length, getD}
