@@ -86,11 +86,14 @@ count-one n v h = sum-ext n (λ i l. ap bit (eqb-sym i v) ∙ sym (mul-one (bit 
 pub share-of-none : (n c : ℕ) (f : ℕ → Bool) → n ≡ 0 → c * count n f ≡ n
 share-of-none n c f e = rw (e, count-none) (mul-zero c)
 
--- a sum of terms c, with d more at the numbers that pass
-pub sum-marked : (n c d : ℕ) (test : ℕ → Bool) → sum n (λ i. c + d * bit (test i)) ≡ n * c + d * count n test
+-- a sum, with d more at the numbers that pass
+pub sum-more : (n d : ℕ) (f : ℕ → ℕ) (test : ℕ → Bool) → sum n (λ i. f i + d * bit (test i)) ≡ sum n f + d * count n test
 unfolding count
-sum-marked n c d test =
-    sum-add n (λ i. c) (λ i. d * bit (test i)) ∙ ap₂ _+_ (sum-const n c) (sum-mul n d (λ i. bit (test i)))
+sum-more n d f test = sum-add n f (λ i. d * bit (test i)) ∙ ap (λ x. sum n f + x) (sum-mul n d (λ i. bit (test i)))
+
+-- the same of terms c
+pub sum-marked : (n c d : ℕ) (test : ℕ → Bool) → sum n (λ i. c + d * bit (test i)) ≡ n * c + d * count n test
+sum-marked n c d test = sum-more n d (λ i. c) test ∙ ap (λ x. x + d * count n test) (sum-const n c)
 
 -- where each term is N when multiplied by C, so is the sum of the terms that pass a test, N for each
 pub sum-passing : (n C N : ℕ) (f : ℕ → Bool) (g : ℕ → ℕ) → ((v : ℕ) → v < n → C * g v ≡ N)

@@ -157,20 +157,25 @@ unfolding from
 map-getD [] d = refl
 map-getD (x ∷ xs) d = ap (λ ys. x ∷ ys) (map-from-suc (λ k. getD (x ∷ xs) k d) 0 (length xs) ∙ map-getD xs d)
 
-length-places : {A : Type 0} (f : ℕ → List A) (a n : ℕ) → length (flatMap f (from a n)) ≡ sum n (λ i. length (f (a + i)))
-unfolding flatMap from sum
-length-places f a zero = refl
-length-places f a (suc n) =
-    length-append (f a) (flatMap f (from (suc a) n))
-    ∙ ap₂
-    _+_
-    (ap (λ x. length (f x)) (sym (add-zero a)))
-    (length-places f (suc a) n ∙ sum-ext n (λ i h. ap (λ x. length (f x)) (suc-add a i ∙ sym (add-suc a i))))
-    ∙ sym (sum-first n (λ i. length (f (a + i))))
+-- how much the numbers below n give together, by a measure that adds up where lists are joined
+module _ {A : Type 0} (measure : List A → ℕ) (of-none : measure [] ≡ 0) (of-joined : (xs ys : List A) → measure (xs ++ ys) ≡ measure xs + measure ys) where
+  measure-places : (f : ℕ → List A) (a n : ℕ) → measure (flatMap f (from a n)) ≡ sum n (λ i. measure (f (a + i)))
+  unfolding flatMap from sum
+  measure-places f a zero = of-none
+  measure-places f a (suc n) =
+      of-joined (f a) (flatMap f (from (suc a) n))
+      ∙ ap₂
+      _+_
+      (ap (λ x. measure (f x)) (sym (add-zero a)))
+      (measure-places f (suc a) n ∙ sum-ext n (λ i h. ap (λ x. measure (f x)) (suc-add a i ∙ sym (add-suc a i))))
+      ∙ sym (sum-first n (λ i. measure (f (a + i))))
 
--- how much the numbers below n give together
+  pub measure-flatMap : (f : ℕ → List A) (n : ℕ) → measure (flatMap f (from 0 n)) ≡ sum n (λ i. measure (f i))
+  measure-flatMap f n = measure-places f 0 n ∙ sum-ext n (λ i h. ap (λ x. measure (f x)) (zero-add i))
+
+-- in length
 pub length-flatMap : {A : Type 0} (f : ℕ → List A) (n : ℕ) → length (flatMap f (from 0 n)) ≡ sum n (λ i. length (f i))
-length-flatMap f n = length-places f 0 n ∙ sum-ext n (λ i h. ap (λ x. length (f x)) (zero-add i))
+length-flatMap = measure-flatMap length refl length-append
 
 -- as many numbers below n stand in a list as it is long, where they are all different and below n
 pub count-member : (n : ℕ) (xs : List ℕ) → Distinct xs → ((x : ℕ) → List·Memᴰ x xs → x < n) → count n (λ q. member q xs) ≡ length xs
