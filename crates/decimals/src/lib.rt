@@ -2,7 +2,7 @@
 ghost use Prim.Native.Nat.{_+_, _≤_};
 ghost use lib.ListN.{length};
 ghost use Rattle.buffers.specs.Put.{Put};
-ghost use Rattle.decimals.specs.Decimals.{decimalDigits};
+ghost use Rattle.decimals.specs.Decimals.{decimalDigits, signedDigits};
 use buffers::put_byte;
 
 // A number in decimal: the digits before the last are those of a tenth of it.
@@ -15,4 +15,17 @@ pub fn put_number(buf: &mut [u8], at: usize, value: usize) -> usize
     }
     let place = put_number(buf, at, value / 10);
     put_byte(buf, place, 48 + (value % 10) as u8)
+}
+
+// A signed number in decimal, a negative one with its sign. The least i64 has no opposite, so a negative number's is had as -1 - value, to which 1 is
+// added after the cast.
+pub fn put_signed(buf: &mut [u8], at: usize, value: i64) -> usize
+    requires { ⌜ at + length (signedDigits value) ≤ length (now buf) ⌝ }
+    ensures { λ r. ⌜ Put (now (buf .entry)) at (signedDigits value) (now (buf .exit)) r ⌝ }
+{
+    if value < 0 {
+        let place = put_byte(buf, at, b'-');
+        return put_number(buf, place, (-1 - value) as usize + 1);
+    }
+    put_number(buf, at, value as usize)
 }
