@@ -46,12 +46,14 @@ enum yurbantze_number {
  * scratch, scratch_length  Room to work in, 65,536 bytes or more. Zeros throughout after every call.
  * answer                   Room for seven numbers, each of which is written by every call. Filled: 0, the number of runs, the number of columns,
  *                          and four zeros. Refused: the number of the refusal and its six details.
+ * spare                    Room for one signed number, which is written by every call. Filled: how much the table could still hold, runs - 1 less the
+ *                          sum over the columns of (level count - 1); it is never negative, and 0 for a saturated table. Refused: 0.
  *
- * What the buffers hold before the call does not matter: answer and bytes depend on the list and the three lengths alone.
+ * What the buffers hold before the call does not matter: answer, spare and bytes depend on the list and the three lengths alone.
  *
- * What a caller owes: no pointer is null, not even one whose length is 0. Each points to as many elements as its length says, and answer to seven.
- * list and answer are aligned for their types. list holds numbers that have been written, and so do the buffers, whatever the numbers are. Nothing
- * else reads or writes the buffers and answer, or writes the list, during the call, and none of the five lies over another.
+ * What a caller owes: no pointer is null, not even one whose length is 0. Each points to as many elements as its length says, answer to seven and
+ * spare to one. list, answer and spare are aligned for their types. list holds numbers that have been written, and so do the buffers, whatever the
+ * numbers are. Nothing else reads or writes the buffers, answer and spare, or writes the list, during the call, and none of the six lies over another.
  *
  * The function allocates nothing and keeps nothing between calls, so several threads may call it, each with buffers of its own. */
 size_t yurbantze_plan(
@@ -59,7 +61,8 @@ size_t yurbantze_plan(
     uint8_t *table, size_t table_length,
     uint8_t *levels, size_t levels_length,
     uint8_t *scratch, size_t scratch_length,
-    size_t answer[YURBANTZE_ANSWER_LENGTH]);
+    size_t answer[YURBANTZE_ANSWER_LENGTH],
+    int64_t *spare);
 
 #ifdef __cplusplus
 }

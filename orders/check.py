@@ -4,9 +4,10 @@
 
 For each file: the order is filled; runs and levels are those of the array's name; the printed runs
 are an orthogonal array of strength two by the plain count of source/verify.py, which knows nothing
-of how they were made; and they are, run for run, those that source/catalogue.py builds. The file
-itself is the one that source/write_orders.py writes. One line for each file, then a last one with
-counts; the exit status is 1 if anything differs.
+of how they were made; and they are, run for run, those that source/catalogue.py builds. The printed
+spare is that of the printed runs and levels, and so the one in docs/CATALOGUE.md. The file itself is
+the one that source/write_orders.py writes. One line for each file, then a last one with counts; the
+exit status is 1 if anything differs.
 """
 
 import subprocess
@@ -16,7 +17,7 @@ from pathlib import Path
 ORDERS = Path(__file__).resolve().parent
 sys.path.insert(0, str(ORDERS / "source"))
 
-from catalogue import catalogue, failure_of, text_of  # noqa: E402
+from catalogue import catalogue, failure_of, spare_of, text_of  # noqa: E402
 from steps import Table  # noqa: E402
 from verify import shape_failure  # noqa: E402
 
@@ -30,13 +31,18 @@ def printed_table(answer):
         header, levels, *runs = [[int(word) for word in line.split(" ")] for line in lines]
     except ValueError:
         return None, "not lines of numbers"
-    failure = "bad header" if header[1:] != [len(levels)] else shape_failure(runs, header[0], header[1], levels)
-    return (None, failure) if failure else (Table(levels, runs), None)
+    if len(header) != 3 or header[1] != len(levels):
+        return None, "bad header"
+    table = Table(levels, runs)
+    failure = shape_failure(runs, header[0], header[1], levels)
+    if failure is None and header[2] != spare_of(table):
+        failure = f"spare {header[2]}, not {spare_of(table)}"
+    return (None, failure) if failure else (table, None)
 
 
 def expected_answer(sheet):
-    """Document 01's printed runs: N and m, the level counts, the runs."""
-    return text_of([[len(sheet.runs), len(sheet.levels)], sheet.levels, *sheet.runs])
+    """Document 01's printed runs, with 02's header: N, m and the spare, the level counts, the runs."""
+    return text_of([[len(sheet.runs), len(sheet.levels), spare_of(sheet)], sheet.levels, *sheet.runs])
 
 
 def difference(array, program):
@@ -64,7 +70,7 @@ def main():
     for array in arrays:
         failure = difference(array, sys.argv[1])
         right += failure is None
-        size = f"{len(array.sheet.runs)} runs, {len(array.sheet.levels)} columns"
+        size = f"{len(array.sheet.runs)} runs, {len(array.sheet.levels)} columns, spare {spare_of(array.sheet)}"
         print(f"{array.file}: {failure or size + ', as expected'}")
     unlisted = sorted({path.name for path in ORDERS.glob("*.txt")} - {array.file for array in arrays})
     for name in unlisted:

@@ -1,8 +1,9 @@
-/* Plans the order whose numbers are the program's arguments, and prints the runs, or the refusal, as document 01 has them printed.
+/* Plans the order whose numbers are the program's arguments, and prints the runs, or the refusal, as documents 01 and 02 have them printed.
  *
  *     gcc -std=c11 -Wall -Wextra -Iinclude examples/c/plan.c target/staticlib/libexported.a -o target/plan_c
  *     target/plan_c 0 2 1 101 4 2 1 2 3
  */
+#include <inttypes.h>
 #include <stdio.h>
 #include <stdlib.h>
 
@@ -20,9 +21,9 @@ static void print_row(const uint8_t *row, size_t length)
     printf("\n");
 }
 
-static void print_table(size_t runs, size_t columns)
+static void print_table(size_t runs, size_t columns, int64_t spare)
 {
-    printf("%zu %zu\n", runs, columns);
+    printf("%zu %zu %" PRId64 "\n", runs, columns, spare);
     print_row(levels, columns);
     for (size_t run = 0; run < runs; run++)
         print_row(table + run * columns, columns);
@@ -53,10 +54,11 @@ int main(int argc, char **argv)
         list[i] = (uint16_t)number;
     }
     size_t answer[YURBANTZE_ANSWER_LENGTH];
+    int64_t spare;
     size_t number =
-        yurbantze_plan(list, length, table, sizeof table, levels, sizeof levels, scratch, sizeof scratch, answer);
+        yurbantze_plan(list, length, table, sizeof table, levels, sizeof levels, scratch, sizeof scratch, answer, &spare);
     if (number == YURBANTZE_FILLED)
-        print_table(answer[1], answer[2]);
+        print_table(answer[1], answer[2], spare);
     else
         print_refusal(answer);
     return 0;

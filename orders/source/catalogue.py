@@ -197,8 +197,9 @@ def order_in_words(array):
     return words
 
 
-def saturated(sheet):
-    return sum(s - 1 for s in sheet.levels) == len(sheet.runs) - 1
+def spare_of(sheet):
+    """How much a sheet could still hold, as request K1 has it; a planner prints it after runs and columns."""
+    return len(sheet.runs) - 1 - sum(s - 1 for s in sheet.levels)
 
 
 def size_cells(name):
@@ -223,13 +224,14 @@ def places_of(entry):
 
 def table_row(array):
     link = f"[{array.file}](../orders/{array.file})"
-    full = "yes" if saturated(array.sheet) else "no"
-    return [places_of(array.entry), link, *size_cells(array.entry.name), order_in_words(array), full]
+    spare = spare_of(array.sheet)
+    saturated = "yes" if spare == 0 else "no"
+    return [places_of(array.entry), link, *size_cells(array.entry.name), order_in_words(array), str(spare), saturated]
 
 
 def table():
     rows = [table_row(array) for array in catalogue() if array.file]
-    return table_lines(["paper and number", "file", "runs", "levels", "steps", "saturated"], rows)
+    return table_lines(["paper and number", "file", "runs", "levels", "steps", "spare", "saturated"], rows)
 
 
 WHY = {"K2": "D 12,12;4 passes over GF(4) and not modulo 4",

@@ -1,5 +1,6 @@
-//! A second implementation of the planner of document 01, written from that document alone and as
-//! plainly as possible, to be compared with the proved one. "01" in comments is that document.
+//! A second implementation of the planner of document 01 with request K1 of document 02, written
+//! from these documents alone and as plainly as possible, to be compared with the proved one. "01"
+//! and "02" in comments are those documents.
 //!
 //! - `order`: question 2, from numbers to an order;
 //! - `counting`: question 4, does an ingredient pass;
@@ -30,10 +31,11 @@ pub const LEAST: Lengths = [65_536, 128, 65_536];
 /// What an order comes to.
 #[derive(Clone, Debug, PartialEq, Eq)]
 pub enum Answer {
-    /// The number of runs, the level count of each column, and the cells run by run.
+    /// The number of runs, the level count of each column, the spare, and the cells run by run.
     Filled {
         runs: usize,
         levels: Vec<u8>,
+        spare: i64,
         table: Vec<u8>,
     },
     /// The number of the refusal and its six details, unused ones 0.
@@ -55,10 +57,19 @@ pub fn plan(list: &[u16], table_len: usize, levels_len: usize, scratch_len: usiz
         Ok(sheet) => Answer::Filled {
             runs: sheet.runs.len(),
             levels: sheet.levels.iter().map(|&level| level as u8).collect(),
+            spare: spare(&sheet),
             table: sheet.runs.concat().iter().map(|&cell| cell as u8).collect(),
         },
         Err(refusal) => refusal,
     }
+}
+
+/// How much a table could still hold: runs - 1 less the sum over the columns of (levels - 1); 02,
+/// K1. It is worked out from the finished sheet and goes through no step, so that a planner that
+/// keeps it from step to step can be held to it.
+fn spare(sheet: &order::Table) -> i64 {
+    let held: i64 = sheet.levels.iter().map(|&level| level as i64 - 1).sum();
+    sheet.runs.len() as i64 - 1 - held
 }
 
 /// The answer to an order's text: the refusal of a word of it, or what the list of its words comes

@@ -39,10 +39,11 @@ pub fn print(answer: &Answer) -> String {
         Answer::Filled {
             runs,
             levels,
+            spare,
             table,
         } => {
             let columns = levels.len();
-            let mut text = format!("{runs} {columns}\n{}\n", spaced(levels));
+            let mut text = format!("{runs} {columns} {spare}\n{}\n", spaced(levels));
             for run in table.chunks(columns) {
                 text += &spaced(run);
                 text += "\n";

@@ -1,4 +1,4 @@
-//! Every example of 01.
+//! Every example of 01, and that of 02's request K1.
 
 mod common;
 use common::*;
@@ -7,7 +7,7 @@ use second::{field, plan, print, scan};
 #[test]
 fn printed_runs() {
     let list = scan(b"0 2 1 101 4 2 1 2 3").unwrap();
-    assert_eq!(print(&planned(&list)), "4 1\n4\n0\n1\n2\n3\n");
+    assert_eq!(print(&planned(&list)), "4 1 0\n4\n0\n1\n2\n3\n");
 }
 
 #[test]

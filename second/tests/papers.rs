@@ -51,12 +51,14 @@ fn tables_are_taken_as_they_are() {
         let Answer::Filled {
             runs,
             levels,
+            spare,
             table,
         } = answer
         else {
             panic!("{}: {answer:?}", array.name)
         };
         assert_eq!(runs, array.rows.len());
+        assert_eq!(spare, runs as i64 - 1 - held(&array.limits));
         assert_eq!(
             levels,
             array

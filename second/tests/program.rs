@@ -17,10 +17,10 @@ fn printed(input: &[u8]) -> String {
 
 #[test]
 fn prints_runs() {
-    assert_eq!(printed(b"0 2 1 101 4 2 1 2 3"), "4 1\n4\n0\n1\n2\n3\n");
+    assert_eq!(printed(b"0 2 1 101 4 2 1 2 3"), "4 1 0\n4\n0\n1\n2\n3\n");
     assert_eq!(
         printed(b"\n0\t0001\n1 00101\n\n"),
-        "4 3\n2 2 2\n0 0 0\n0 1 1\n1 0 1\n1 1 0\n"
+        "4 3 0\n2 2 2\n0 0 0\n0 1 1\n1 0 1\n1 1 0\n"
     );
 }
 

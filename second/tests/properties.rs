@@ -3,7 +3,9 @@
 mod common;
 use common::*;
 use second::maker::{large_calls, make, Call};
+use second::order::{Ingredient, Matrix, Order, Step};
 use second::{order, plan, print, scan, Answer};
+use std::collections::BTreeMap;
 use std::sync::OnceLock;
 
 /// Random orders, other ones than those of the vectors, with their answers.
@@ -26,6 +28,114 @@ fn filled_tables_are_even() {
     for call in large_calls() {
         assert_even(&call.answer());
     }
+}
+
+#[test]
+fn no_filled_order_has_a_spare_below_zero() {
+    let large: Vec<Answer> = large_calls().iter().map(Call::answer).collect();
+    let mut saturated = 0;
+    let mut others = 0;
+    for answer in tried().iter().map(|(_, answer)| answer).chain(&large) {
+        if let Answer::Filled { spare, .. } = answer {
+            assert!(*spare >= 0, "{spare}");
+            saturated += usize::from(*spare == 0);
+            others += usize::from(*spare > 0);
+        }
+    }
+    assert!(saturated > 100 && others > 100, "{saturated} {others}");
+}
+
+/// 02's rules for the spare after each kind of step. Each is worked out here from the sheet before
+/// the step and from the ingredients, and never from the sheet that the step leaves.
+#[test]
+fn the_spare_follows_from_the_steps() {
+    let mut times: BTreeMap<&str, usize> = BTreeMap::new();
+    for (call, answer) in tried() {
+        if matches!(answer, Answer::Refused { .. }) {
+            continue;
+        }
+        let order = order::read(&call.list).unwrap();
+        let answers = answers_by_step(&call.list);
+        assert_eq!(answers.last(), Some(answer));
+        for (index, step) in order.steps.iter().enumerate() {
+            let before = index.checked_sub(1).map(|earlier| &answers[earlier]);
+            let (rule, wanted) = spare_after(&order, step, before);
+            assert_eq!(spare(&answers[index]), wanted, "{rule} in {:?}", call.list);
+            *times.entry(rule).or_default() += 1;
+        }
+    }
+    assert_eq!(times.len(), 7, "{times:?}");
+    assert!(times.values().all(|&count| count > 100), "{times:?}");
+}
+
+/// The name of the rule that a step falls under, and the spare that it wants after the step.
+fn spare_after(order: &Order, step: &Step, before: Option<&Answer>) -> (&'static str, i64) {
+    match step {
+        Step::Take { table } => ("TAKE", spare_of_table(order, *table)),
+        Step::Field { generator } => {
+            let Ingredient::Generator(generator) = &order.ingredients[generator - 1] else {
+                panic!("{step:?}")
+            };
+            let power = |exponent: usize| (generator.s as i64).pow(exponent as u32);
+            let levels: Vec<i64> = generator.factors.iter().map(|f| power(f.len())).collect();
+            ("FIELD", power(generator.t) - 1 - held(&levels))
+        }
+        Step::Sum { matrices, k } => {
+            let matrices: Vec<&Matrix> = matrices.iter().map(|&d| matrix_of(order, d)).collect();
+            let (n, sheet_levels) = shape(before.unwrap());
+            let n_times_m = (n * matrices[0].rows.len()) as i64;
+            let new_levels: Vec<i64> = sheet_levels
+                .iter()
+                .flat_map(|&level| {
+                    let server = matrices.iter().find(|matrix| matrix.p == level.into());
+                    vec![level.into(); server.unwrap().columns]
+                })
+                .collect();
+            let without_k = n_times_m - 1 - held(&new_levels);
+            match k {
+                0 => ("SUM without k", without_k),
+                _ => ("SUM with k", without_k - held_by_table(order, *k)),
+            }
+        }
+        Step::Merge { .. } => ("MERGE", spare(before.unwrap())),
+        Step::Split { table, .. } => match spare_of_table(order, *table) {
+            0 => ("SPLIT by a saturated table", spare(before.unwrap())),
+            more => ("SPLIT by another table", spare(before.unwrap()) + more),
+        },
+    }
+}
+
+fn matrix_of(order: &Order, number: usize) -> &Matrix {
+    match &order.ingredients[number - 1] {
+        Ingredient::Matrix(matrix) => matrix,
+        other => panic!("{other:?}"),
+    }
+}
+
+/// Runs, and the sum over columns of (levels - 1), of a table that an order names.
+fn size_of_table(order: &Order, number: usize) -> (i64, i64) {
+    match number {
+        101 => (4, 3),
+        102 => (9, 8),
+        103 => (12, 6),
+        104 => (12, 7),
+        _ => match &order.ingredients[number - 1] {
+            Ingredient::Table(table) => {
+                let levels: Vec<i64> = table.levels.iter().map(|&level| level as i64).collect();
+                (table.runs.len() as i64, held(&levels))
+            }
+            other => panic!("{other:?}"),
+        },
+    }
+}
+
+fn held_by_table(order: &Order, number: usize) -> i64 {
+    size_of_table(order, number).1
+}
+
+fn spare_of_table(order: &Order, number: usize) -> i64 {
+    let (runs, held) = size_of_table(order, number);
+    runs - 1 - held
 }
 
 #[test]
@@ -108,10 +218,11 @@ fn printed_words_are_read_again() {
             Answer::Filled {
                 runs,
                 levels,
+                spare,
                 table,
             } => {
                 assert_eq!(text.lines().count(), runs + 2);
-                let mut numbers = vec![*runs as u16, levels.len() as u16];
+                let mut numbers = vec![*runs as u16, levels.len() as u16, *spare as u16];
                 numbers.extend(levels.iter().map(|&level| u16::from(level)));
                 numbers.extend(table.iter().map(|&cell| u16::from(cell)));
                 assert_eq!(scan(text.as_bytes()), Ok(numbers));

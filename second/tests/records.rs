@@ -103,9 +103,11 @@ fn assert_printed(answer: &[&str]) {
 }
 
 fn assert_filled(answer: &[&str]) {
-    let size = numbers(answer[0]);
+    let header = numbers(answer[0]);
     let levels = numbers(answer[1]);
-    assert_eq!(size, [answer.len() - 2, levels.len()]);
+    let runs = answer.len() - 2;
+    let held: usize = levels.iter().map(|level| level - 1).sum();
+    assert_eq!(header, [runs, levels.len(), runs - 1 - held]);
     for run in &answer[2..] {
         let run = numbers(run);
         assert_eq!(run.len(), levels.len());
@@ -184,6 +186,14 @@ fn kind_of_answer(record: &Record) -> String {
     }
 }
 
+/// Of a filled order.
+fn kind_of_spare(record: &Record) -> String {
+    match numbers(record.answer[0])[2] {
+        0 => "spare 0".to_string(),
+        _ => "spare above 0".to_string(),
+    }
+}
+
 /// The steps of a filled order: the kind of each, FIELD with its s and MERGE with its p.
 fn kinds_of_steps(order: &str) -> Vec<String> {
     let order = order::read(&scan(order.as_bytes()).unwrap()).unwrap();
@@ -221,6 +231,7 @@ fn vectors_reach_everything_often() {
     for record in &vectors {
         let kind = kind_of_answer(record);
         if kind == "filled" {
+            *times.entry(kind_of_spare(record)).or_default() += 1;
             for step in kinds_of_steps(record.order) {
                 *times.entry(step).or_default() += 1;
             }
@@ -228,7 +239,8 @@ fn vectors_reach_everything_often() {
         *times.entry(kind).or_default() += 1;
     }
 
-    let mut wanted: Vec<String> = ["TAKE", "SUM", "SPLIT"].map(str::to_string).to_vec();
+    let others = ["TAKE", "SUM", "SPLIT", "spare 0", "spare above 0"];
+    let mut wanted: Vec<String> = others.map(str::to_string).to_vec();
     wanted.extend(refusals());
     wanted.extend([2, 3, 4, 5, 7, 8, 9].map(|s| format!("FIELD {s}")));
     wanted.extend([2, 3, 5, 7].map(|p| format!("MERGE {p}")));

@@ -19,6 +19,7 @@ extern "C" {
         scratch: *mut u8,
         scratch_length: usize,
         answer: *mut [usize; 7],
+        spare: *mut i64,
     ) -> usize;
 }
 
@@ -28,6 +29,7 @@ extern "C" {
 pub struct Table {
     runs: usize,
     levels: Vec<u8>,
+    spare: i64,
     entries: Vec<u8>,
 }
 
@@ -45,6 +47,12 @@ impl Table {
     /// The level count of each column.
     pub fn levels(&self) -> &[u8] {
         &self.levels
+    }
+
+    /// How much the table could still hold: runs - 1 less the sum over the columns of (levels - 1). It is never negative; a table whose spare is 0 is
+    /// saturated.
+    pub fn spare(&self) -> i64 {
+        self.spare
     }
 
     /// The runs in order, each with an entry for each column.
@@ -121,17 +129,19 @@ impl fmt::Display for Refusal {
 
 impl std::error::Error for Refusal {}
 
-/// The numbers of runs and columns of a table that was written into buffers.
+/// The numbers of runs and columns of a table that was written into buffers, and how much it could still hold (`Table::spare`).
 #[derive(Clone, Copy, Debug, PartialEq, Eq)]
 pub struct Size {
     pub runs: usize,
     pub columns: usize,
+    pub spare: i64,
 }
 
 /// Plans an order into buffers that the caller lends. Filled: the runs lie one after the other in `table`, the level counts in `levels`, and zeros
 /// after them. Refused: both are zeros. The scratch is zeros after every call. What the buffers hold before it does not matter.
 pub fn plan_into(list: &[u16], table: &mut [u8], levels: &mut [u8], scratch: &mut [u8]) -> Result<Size, Refusal> {
     let mut answer = [0; 7];
+    let mut spare = 0;
     // SAFETY: each pointer is a reference's, with the length of its slice, and so is not null, is aligned, and points to initialised elements; the
     // references are borrowed until the call returns, those that are written without another. The function requires nothing else, and its proof says
     // that it reads and writes within those lengths.
@@ -146,10 +156,11 @@ pub fn plan_into(list: &[u16], table: &mut [u8], levels: &mut [u8], scratch: &mu
             scratch.as_mut_ptr(),
             scratch.len(),
             &mut answer,
+            &mut spare,
         )
     };
     match number {
-        0 => Ok(Size { runs: answer[1], columns: answer[2] }),
+        0 => Ok(Size { runs: answer[1], columns: answer[2], spare }),
         _ => Err(Refusal::from_numbers(answer)),
     }
 }
@@ -159,8 +170,8 @@ pub fn plan(list: &[u16]) -> Result<Table, Refusal> {
     let mut entries = vec![0; TABLE_LENGTH];
     let mut levels = vec![0; LEVELS_LENGTH];
     let mut scratch = vec![0; SCRATCH_LENGTH];
-    let Size { runs, columns } = plan_into(list, &mut entries, &mut levels, &mut scratch)?;
+    let Size { runs, columns, spare } = plan_into(list, &mut entries, &mut levels, &mut scratch)?;
     entries.truncate(runs * columns);
     levels.truncate(columns);
-    Ok(Table { runs, levels, entries })
+    Ok(Table { runs, levels, spare, entries })
 }

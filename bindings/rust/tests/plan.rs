@@ -1,4 +1,4 @@
-//! Orders planned through the static library: those of document 01, "Counted examples" and "Printed runs".
+//! Orders planned through the static library: those of document 01, "Counted examples" and "Printed runs", and the spare of document 02.
 use yurbantze::{plan, plan_into, Refusal, Size, Table, LEVELS_LENGTH, SCRATCH_LENGTH, TABLE_LENGTH};
 
 fn runs(table: &Table) -> Vec<Vec<u8>> {
@@ -31,7 +31,70 @@ fn the_printed_example() {
     let table = plan(&[0, 2, 1, 101, 4, 2, 1, 2, 3]).expect("the order is filled");
     assert_eq!((table.run_count(), table.column_count()), (4, 1));
     assert_eq!(table.levels(), [4]);
+    assert_eq!(table.spare(), 0);
     assert_eq!(runs(&table), [[0], [1], [2], [3]]);
+}
+
+#[test]
+fn spares() {
+    let spare = |list: &[u16]| plan(list).expect("the order is filled").spare();
+    assert_eq!(spare(&[0, 1, 1, 101]), 0);
+    assert_eq!(spare(&[0, 1, 1, 102]), 0);
+    assert_eq!(spare(&[0, 1, 1, 103]), 5);
+    assert_eq!(spare(&[0, 1, 1, 104]), 4);
+    assert_eq!(spare(&NINE_RUNS), 0);
+    // One column of 4 levels, and SPLIT of it by one of 2.
+    assert_eq!(spare(&[1, 1, 4, 1, 4, 0, 1, 2, 3, 1, 1, 1]), 0);
+    assert_eq!(spare(&[2, 1, 4, 1, 4, 0, 1, 2, 3, 1, 4, 1, 2, 0, 0, 1, 1, 2, 1, 1, 5, 1, 2]), 2);
+}
+
+// The exported function itself: a refusal of the package has no spare that could be looked at.
+extern "C" {
+    fn yurbantze_plan(
+        list: *const u16,
+        list_length: usize,
+        table: *mut u8,
+        table_length: usize,
+        levels: *mut u8,
+        levels_length: usize,
+        scratch: *mut u8,
+        scratch_length: usize,
+        answer: *mut [usize; 7],
+        spare: *mut i64,
+    ) -> usize;
+}
+
+/// Number and spare, of which the latter was another number before the call.
+fn number_and_spare(list: &[u16], table_length: usize) -> (usize, i64) {
+    let (mut table, mut levels, mut scratch) = (vec![7; table_length], vec![7; LEVELS_LENGTH], vec![7; SCRATCH_LENGTH]);
+    let (mut answer, mut spare) = ([7; 7], 7);
+    // SAFETY: each pointer is that of a vector or a slice, with its length, or of a local variable, and none lies over another.
+    let number = unsafe {
+        yurbantze_plan(
+            list.as_ptr(),
+            list.len(),
+            table.as_mut_ptr(),
+            table.len(),
+            levels.as_mut_ptr(),
+            levels.len(),
+            scratch.as_mut_ptr(),
+            scratch.len(),
+            &mut answer,
+            &mut spare,
+        )
+    };
+    (number, spare)
+}
+
+#[test]
+fn a_refusal_leaves_a_spare_of_0() {
+    let take_103 = [0, 1, 1, 103];
+    assert_eq!(number_and_spare(&take_103, TABLE_LENGTH), (0, 5));
+    assert_eq!(number_and_spare(&take_103, TABLE_LENGTH - 1), (1, 0));
+    assert_eq!(number_and_spare(&[0, 1, 1], TABLE_LENGTH), (2, 0));
+    // The sheet before the step that is refused has spare 5.
+    assert_eq!(number_and_spare(&[0, 2, 1, 103, 4, 2, 1, 2, 3], TABLE_LENGTH), (9, 0));
+    assert_eq!(number_and_spare(&[0, 2, 1, 103, 4, 2, 2, 3, 4], TABLE_LENGTH), (10, 0));
 }
 
 #[test]
@@ -67,7 +130,7 @@ fn lists_that_do_not_read() {
 fn every_byte_is_settled_whatever_the_buffers_held() {
     let (mut table, mut levels, mut scratch) = (vec![7; TABLE_LENGTH + 3], vec![7; LEVELS_LENGTH + 3], vec![7; SCRATCH_LENGTH + 3]);
     let size = plan_into(&NINE_RUNS, &mut table, &mut levels, &mut scratch);
-    assert_eq!(size, Ok(Size { runs: 9, columns: 4 }));
+    assert_eq!(size, Ok(Size { runs: 9, columns: 4, spare: 0 }));
     assert_eq!(table[..8], [0, 0, 0, 0, 0, 1, 2, 1]);
     assert!(table[36..].iter().all(|byte| *byte == 0));
     assert_eq!(levels[..4], [3, 3, 3, 3]);

@@ -7,6 +7,7 @@ use Prim.Native.Nat.{ℕ, zero, suc, _+_, _-_, _≤_, _<_}
 use native.Mathlib.Nat.{le-trans}
 use native.Mathlib.Omega.{arith}
 use borrow.Author.Tests.{ne-eqb}
+use lib.IntN.{ℤ}
 use lib.ListN.{length, drop, getElem?, drop-of-length-le}
 use Rattle.counting.specs.Table.{Table, columns}
 use Rattle.order.specs.Order.{Order, Step, StepLimits}
@@ -15,6 +16,7 @@ use Rattle.order.proofs.OrderLaw.{reads-iff}
 use Rattle.places.specs.Places.{stepCount}
 use Rattle.sheets.specs.Buffers.{Suffices}
 use Rattle.step_tables.specs.Sheet.{LevelsAtMost, Sound, SmallEnough, Agree}
+use Rattle.spare.specs.Spare.{spareOf, spare}
 use Rattle.sheets.specs.Steps.{Outcome, filled, refused, proceed, provided, firstStep, laterStep, laterSteps, allSteps}
 use Rattle.sheets.specs.declared.answer.Refusal.{Refusal}
 use Rattle.sheets.specs.declared.answer.Refusal.the-variants.{StepNotAllowed}
@@ -41,13 +43,14 @@ pub stepsOn : Order → ℕ → Option Table → List Step → Outcome
 stepsOn o n none steps = allSteps o steps
 stepsOn o n (some S) steps = laterSteps o n S steps
 
--- a sheet before step number n: sound, within the limits, and of this size
+-- a sheet before step number n: sound, within the limits, and of this size, with its spare degrees
 pub record Later (number : ℕ) (size : Size) (S : Table) : Type 0 where
   pub later : 2 ≤ number
   pub sound : Sound S
   pub small : SmallEnough S
   pub runs-are : size .runs ≡ S .runs
   pub columns-are : size .columns ≡ columns S
+  pub spare-is : size .spare ≡ spare S
 
 -- the sheet in hand before step number n
 pub Before : ℕ → Size → Option Table → Type 0
@@ -155,6 +158,9 @@ small-agrees : {A B : Table} → Agree A B → SmallEnough A → SmallEnough B
 small-agrees alike small =
     record { runs-most = rw (← alike .same-runs) (small .runs-most); columns-most = rw (← agree-columns alike) (small .columns-most) }
 
+spare-agrees : {A B : Table} → Agree A B → spare A ≡ spare B
+spare-agrees alike = ap₂ spareOf (alike .same-runs) (alike .same-levels)
+
 -- ---- the sheet in hand, of the definitions and in bytes
 
 outcome-refl : (x : Outcome) → AgreeOutcome x x
@@ -180,6 +186,7 @@ module _ (list : List ℕ) (number : ℕ) (size : Size) (table levels scratch : 
         sound = sound-agrees alike (before .sound);
         small = small-agrees alike (before .small);
         holds = agree-holds alike holds;
+        spare-is = before .spare-is ∙ spare-agrees alike;
         scratch-clear = clear;
       }
 
@@ -243,8 +250,8 @@ underway-start size table levels scratch pass long table-clear levels-clear clea
 same-refusal : {why other : Refusal} → Refused why ≡ Refused other → why ≡ other
 same-refusal e = cc
 
-same-sizes : {n m k l : ℕ} → Filled n m ≡ Filled k l → (n ≡ k) × (m ≡ l)
-same-sizes e = (cc, cc)
+same-sizes : {n m k l : ℕ} {x y : ℤ} → Filled n m x ≡ Filled k l y → (n ≡ k) × (m ≡ l) × (x ≡ y)
+same-sizes e = (cc, cc, cc)
 
 module _ (table levels table′ levels′ : List ℕ) where
   agree-refused : {x y : Outcome} {why : Refusal} → AgreeOutcome x y → Left y table levels (Refused why) table′ levels′
@@ -253,12 +260,12 @@ module _ (table levels table′ levels′ : List ℕ) where
   agree-refused (both-filled alike) left = absurd (refused-unfilled (left .0))
   agree-refused (both-refused why) left = (ap refused (sym (same-refusal (left .0))), left .1, left .2)
 
-  agree-filled : {x y : Outcome} {n m : ℕ} → AgreeOutcome x y → Left y table levels (Filled n m) table′ levels′
-      → (S : Table) × (x ≡ filled S) × (n ≡ S .runs) × (m ≡ columns S) × Holds S table′ levels′
+  agree-filled : {x y : Outcome} {n m : ℕ} {spared : ℤ} → AgreeOutcome x y → Left y table levels (Filled n m spared) table′ levels′
+      → (S : Table) × (x ≡ filled S) × (n ≡ S .runs) × (m ≡ columns S) × (spared ≡ spare S) × Holds S table′ levels′
   unfolding Left
   agree-filled (both-filled {A} {B} alike) left =
-      let (runs, many) = same-sizes (left .0) in
-      (A, refl, runs ∙ sym (alike .same-runs), many ∙ sym (agree-columns alike), agree-holds (agree-sym alike) (left .1))
+      let (runs, many, spare-is) = same-sizes (left .0) in
+      (A, refl, runs ∙ sym (alike .same-runs), many ∙ sym (agree-columns alike), spare-is ∙ sym (spare-agrees alike), agree-holds (agree-sym alike) (left .1))
   agree-filled (both-refused why) left = absurd (refused-unfilled (sym (left .0)))
 
 -- a step that is provided and filled leaves a sound sheet
@@ -312,20 +319,28 @@ module _ {list : List ℕ} {number : ℕ} {size : Size} {table levels scratch : 
       rw (left-is ∙ ap (λ x. proceed x others) refuses, last-is ∙ ap (λ x. handAfter x (way .hand) following) refuses)
       (refl, same-table ∙ way .runs-first, same-levels ∙ way .levels-first)
 
-  pub step-filled : {answer : Answer} (n m : ℕ) (table′ levels′ scratch′ : List ℕ) → answer ≡ Filled n m
+  pub step-filled : {answer : Answer} (n m : ℕ) (spared : ℤ) (table′ levels′ scratch′ : List ℕ) → answer ≡ Filled n m spared
       → Left (proceedIn list number (inHand number size table levels)) table levels answer table′ levels′
       → length table′ ≡ length table → length levels′ ≡ length levels → length scratch′ ≡ length scratch
-      → Zeros scratch′
-      → Underway list (number + 1) (record { runs = n; columns = m }) table′ levels′ scratch′
+      → Zeros scratch′ → {kept : ℤ} → kept ≡ spared
+      → Underway list (number + 1) (record { runs = n; columns = m; spare = kept }) table′ levels′ scratch′
   unfolding proceed handAfter next others following the-steps stepsOn Before handRuns handLevels
-  step-filled n m table′ levels′ scratch′ is left table-kept levels-kept scratch-kept clear =
-      let (S, same, runs, many, holds) = agree-filled table levels table′ levels′ next-agrees (rw is at left) in
+  step-filled n m spared table′ levels′ scratch′ is left table-kept levels-kept scratch-kept clear spare-kept =
+      let (S, same, runs, many, spare-is, holds) = agree-filled table levels table′ levels′ next-agrees (rw is at left) in
       let back : number ≡ number + 1 - 1 = omega arith in
       let (sound, small) = provided-sound (way .passing) number (number - 1) size (way .hand) (way .before) _ refl same in
       record {
         passing = way .passing;
         hand = some S;
-        before = record { later = omega (arith, underway-numbered way); sound = sound; small = small; runs-are = runs; columns-are = many };
+        before =
+            record {
+              later = omega (arith, underway-numbered way);
+              sound = sound;
+              small = small;
+              runs-are = runs;
+              columns-are = many;
+              spare-is = spare-kept ∙ spare-is;
+            };
         runs-first = holds .runs-first;
         levels-first = holds .levels-first;
         left =
@@ -342,18 +357,18 @@ module _ {list : List ℕ} {number : ℕ} {size : Size} {table levels scratch : 
 
 -- no step is left
 pub none-left : {list : List ℕ} {number : ℕ} {size : Size} {table levels scratch : List ℕ} (way : Underway list number size table levels scratch)
-    → length (way .passing .readable .order .steps) < number → (runs counts : List ℕ)
-    → Left (allIn list) runs counts (Filled (size .runs) (size .columns)) table levels
+    → length (way .passing .readable .order .steps) < number → (runs counts : List ℕ) {spared : ℤ} → spared ≡ size .spare
+    → Left (allIn list) runs counts (Filled (size .runs) (size .columns) spared) table levels
 unfolding Before handRuns handLevels stepsOn Left
-none-left {list} {number} {size} {table} {levels} way done runs counts = go (way .hand) (way .before) (way .runs-first) (way .levels-first) (way .left)
+none-left {list} {number} {size} {table} {levels} way done runs counts {spared} kept = go (way .hand) (way .before) (way .runs-first) (way .levels-first) (way .left)
   where
     go : (hand : Option Table) → Before number size hand → table ≡ handRuns (length table) hand → levels ≡ handLevels (length levels) hand
         → allIn list ≡ stepsOn (way .passing .readable .order) number hand (drop (number - 1) (way .passing .readable .order .steps))
-        → Left (allIn list) runs counts (Filled (size .runs) (size .columns)) table levels
+        → Left (allIn list) runs counts (Filled (size .runs) (size .columns) spared) table levels
     go none one runs-first levels-first left =
         absurd (omega (arith, done, reads-iff list (way .passing .readable .order) .0 (way .passing .readable .reads) .1 .step-count .0))
     go (some S) before runs-first levels-first left =
-        subst (λ x. Left x runs counts (Filled (size .runs) (size .columns)) table levels)
+        subst (λ x. Left x runs counts (Filled (size .runs) (size .columns) spared) table levels)
         (sym
         (left ∙ left-none (way .passing .readable .order) number S (way .passing .readable .order .steps) (number - 1) (omega (arith, before .later, done))))
-        (ap₂ Filled (before .runs-are) (before .columns-are), record { runs-first = runs-first; levels-first = levels-first })
+        (cc, record { runs-first = runs-first; levels-first = levels-first })

@@ -22,12 +22,21 @@ fn carry_out(list: &[u16], table: &mut [u8], levels: &mut [u8], scratch: &mut [u
     let mut size = Size {
         runs: 0,
         columns: 0,
+        spare: 0,
     };
     let mut number = 1;
     while number <= last {
         match proceed(list, number, size, table, levels, scratch) {
-            Answer::Filled { runs, columns } => {
-                size = Size { runs, columns };
+            Answer::Filled {
+                runs,
+                columns,
+                spare,
+            } => {
+                size = Size {
+                    runs,
+                    columns,
+                    spare,
+                };
             }
             Answer::Refused(why) => return Answer::Refused(why),
         }
@@ -36,6 +45,7 @@ fn carry_out(list: &[u16], table: &mut [u8], levels: &mut [u8], scratch: &mut [u
     Answer::Filled {
         runs: size.runs,
         columns: size.columns,
+        spare: size.spare,
     }
 }
 
@@ -53,7 +63,15 @@ pub fn carry_or_clear(
     ensures { λ r. ⌜ Zeros (now (scratch .exit)) ⌝ }
 {
     match carry_out(list, table, levels, scratch) {
-        Answer::Filled { runs, columns } => Answer::Filled { runs, columns },
+        Answer::Filled {
+            runs,
+            columns,
+            spare,
+        } => Answer::Filled {
+            runs,
+            columns,
+            spare,
+        },
         Answer::Refused(why) => {
             clear(table);
             clear(levels);

@@ -2,10 +2,11 @@
 ghost use Rattle.exported.specs.Exported.{PromiseInNumbers};
 use construction::plan;
 use numbering::answer_numbers;
+use numbering::answer_spare;
 
 // Plans an order, as `construction::plan` does. The answer is seven numbers: 0, the numbers of runs and columns, and zeros for a filled order, or
-// 01's number of the refusal and its six details. The first is returned. Nothing is required of a caller: any list is answered, whatever the
-// lengths of the buffers and whatever they hold.
+// 01's number of the refusal and its six details. The first is returned. Beside them is a signed number: the spare degrees of a filled order (02,
+// K1), and 0 for a refusal. Nothing is required of a caller: any list is answered, whatever the lengths of the buffers and whatever they hold.
 #[no_mangle]
 pub extern "C" fn yurbantze_plan(
     list: &[u16],
@@ -13,10 +14,13 @@ pub extern "C" fn yurbantze_plan(
     levels: &mut [u8],
     scratch: &mut [u8],
     answer: &mut [usize; 7],
+    spare: &mut i64,
 ) -> usize
-    ensures { λ r. ⌜ PromiseInNumbers (now (list .entry)) (now (table .entry)) (now (levels .entry)) (now (scratch .entry)) r (now (answer .exit)) (now (table .exit)) (now (levels .exit)) (now (scratch .exit)) ⌝ }
+    ensures { λ r. ⌜ PromiseInNumbers (now (list .entry)) (now (table .entry)) (now (levels .entry)) (now (scratch .entry)) r (now (answer .exit)) (now (spare .exit)) (now (table .exit)) (now (levels .exit)) (now (scratch .exit)) ⌝ }
 {
-    let numbers = answer_numbers(plan(list, table, levels, scratch));
+    let planned = plan(list, table, levels, scratch);
+    let numbers = answer_numbers(planned);
     *answer = numbers;
+    *spare = answer_spare(planned);
     numbers[0]
 }

@@ -126,7 +126,7 @@ field-refused {list} readable stands found e other =
     field-outcome readable stands ∙ rw (← e, no-generator list found other)
 
 -- question 8: the sheet of a generator is never too large
-generator-small : {list : List ℕ} {g : GeneratorAt} → FieldStands list g → SmallEnough (sheetOf list g)
+pub generator-small : {list : List ℕ} {g : GeneratorAt} → FieldStands list g → SmallEnough (sheetOf list g)
 generator-small known =
     record { runs-most = rw (sheet-runs known) (known .runs-most); columns-most = rw (sheet-columns known) (known .factors-most) }
 

@@ -7,14 +7,17 @@ use Prim.Native.Nat.{ℕ, _+_, _-_, _*_, _≤_, _<_}
 use native.Mathlib.Nat.{le-trans, mul-le-mul}
 use native.Mathlib.Decide.{decLt}
 use native.Mathlib.Omega.{arith}
+use lib.IntN.{ℤ}
 use lib.ListN.{length, getD, take, drop, length-append, length-replicate, getD-replicate, List·getD-append, List·getD-eq-default}
 use lib.Seq.{length-take-le, take-at, drop-at, getD-take, getD-append-add}
 use Rattle.finite.specs.Lists.{from}
 use Rattle.buffers.specs.Put.{Put}
 use Rattle.buffers.proofs.Puts.{put-front}
 use Rattle.counting.specs.Table.{Table, columns, levelsOf, tableOf}
-use Rattle.step_tables.specs.Sheet.{Agree}
+use Rattle.step_tables.specs.Sheet.{SmallEnough, Agree}
 use Rattle.step_tables.proofs.Agreement.{agree-columns}
+use Rattle.spare.specs.Spare.{spareOf, spare}
+use Rattle.sheets.specs.declared.answer.Answer.the-variants.{Filled}
 use Rattle.layout.specs.Bytes.{runOf, runsOf, zeros, padded, Holds, Zeros, sheetIn}
 use Rattle.layout.specs.Step.{Ready}
 use Rattle.layout.specs.declared.Size.{Size}
@@ -49,6 +52,11 @@ padded-front n k xs e = take-at xs (zeros (n - length xs)) k e
 pub padded-after : (n k : ℕ) (xs : List ℕ) → length xs ≡ k → Zeros (drop k (padded n xs))
 unfolding padded
 padded-after n k xs e = zeros-all (n - length xs) (drop-at xs (zeros (n - length xs)) k e)
+
+-- what a buffer has at its front lies within it
+pub padded-within : (bytes front : List ℕ) → bytes ≡ padded (length bytes) front → length front ≤ length bytes
+unfolding padded
+padded-within bytes front e = omega (arith, simp length-append at (ap length e))
 
 -- ---- the sheet in hand
 
@@ -149,3 +157,17 @@ module _ {A B : Table} (alike : Agree A B) where
         runs-first = holds .runs-first ∙ ap (padded (length table)) runs-agree;
         levels-first = holds .levels-first ∙ ap (padded (length levels)) (alike .same-levels);
       }
+
+-- the spare degrees of a table that lies in the buffers are worked out from its level counts there
+module _ {S : Table} {table levels : List ℕ} (holds : Holds S table levels) {runs many : ℕ} (same-runs : runs ≡ S .runs) (same-columns : many ≡ columns S) where
+  -- what `spare_of` asks
+  pub held-limits : SmallEnough S → (runs ≤ 512) × (many ≤ 128) × (many ≤ length levels)
+  held-limits small =
+      rw (same-runs, same-columns) (small .runs-most, small .columns-most, padded-within levels (S .levels) (holds .levels-first))
+
+  -- its size and what `spare_of` then gives are its answer
+  pub held-answer : {spared : ℤ} → spared ≡ spareOf runs (take many levels) → Filled runs many spared ≡ Filled (S .runs) (columns S) (spare S)
+  held-answer {spared} worked-out =
+      let front : take many levels ≡ S .levels = ap (take many) (holds .levels-first) ∙ padded-front (length levels) many (S .levels) (sym same-columns) in
+      let same-spare : spared ≡ spare S = worked-out ∙ ap₂ spareOf same-runs front in
+      cc

@@ -10,6 +10,7 @@ use Rattle.order.specs.Range.{EntriesInRange}
 use Rattle.places.specs.Places.{stepAt, operandsOf}
 use Rattle.places.specs.declared.Placed.the-variants.{Step as StepAt}
 use Rattle.step_tables.specs.Sheet.{Sound, SmallEnough}
+use Rattle.spare.specs.Spare.{spare}
 use Rattle.sheets.specs.Steps.{Outcome, filled, refused, firstStep, laterStep}
 use Rattle.sheets.specs.declared.answer.Refusal.the-variants.{Unreadable}
 use Rattle.sheets.specs.declared.answer.Answer.{Answer}
@@ -44,7 +45,7 @@ firstIn list kind at = inOrder list (λ o. firstStep o (operandsOf list kind at)
 unfoldable pub laterIn : List ℕ → ℕ → Table → ℕ → ℕ → Outcome
 laterIn list n S kind at = inOrder list (λ o. laterStep o n S (operandsOf list kind at))
 
--- what a later step takes: the sheet in hand, sound and within the limits, with nothing else in the buffers
+-- what a later step takes: the sheet in hand, sound and within the limits, with nothing else in the buffers, and its spare degrees (02, K1)
 pub record Ready (list : List ℕ) (size : Size) (table levels scratch : List ℕ) : Type 0 where
   pub readable : Readable list
   pub long : LongEnough table levels scratch
@@ -52,10 +53,11 @@ pub record Ready (list : List ℕ) (size : Size) (table levels scratch : List �
   pub sound : Sound (sheetIn table levels size)
   pub small : SmallEnough (sheetIn table levels size)
   pub holds : Holds (sheetIn table levels size) table levels
+  pub spare-is : size .spare ≡ spare (sheetIn table levels size)
   pub scratch-clear : Zeros scratch
 
 -- What is there where a step comes to an outcome: the answer, and the run table and the level list, which were table and levels before. A refused
 -- step leaves them as they were.
 unfoldable pub Left : Outcome → List ℕ → List ℕ → Answer → List ℕ → List ℕ → Type 0
-Left (filled S) table levels answer table′ levels′ = (answer ≡ Filled (S .runs) (columns S)) × Holds S table′ levels′
+Left (filled S) table levels answer table′ levels′ = (answer ≡ Filled (S .runs) (columns S) (spare S)) × Holds S table′ levels′
 Left (refused why) table levels answer table′ levels′ = (answer ≡ Refused why) × (table′ ≡ table) × (levels′ ≡ levels)

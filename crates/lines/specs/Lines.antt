@@ -1,7 +1,9 @@
 -- What is printed: document 01, "Printed runs". Text is the list of its bytes.
 use mathlib.Core.List.{List, [], _∷_, _++_}
 use Prim.Native.Nat.{ℕ, zero, suc}
+use lib.IntN.{ℤ}
 use lib.ListN.{length, take, drop}
+use Rattle.decimals.specs.Decimals.{decimalDigits, signedDigits}
 use Rattle.rows.specs.Rows.{spaced, line}
 
 -- The bytes of "refused".
@@ -17,6 +19,10 @@ abbrev pub runLines : ℕ → ℕ → List ℕ → List ℕ
 runLines zero m cells = []
 runLines (suc runs) m cells = line (take m cells) ++ runLines runs m (drop m cells)
 
--- A filled order "prints "N m", the level counts, then the runs". There are as many level counts as columns.
-unfoldable pub printed : ℕ → List ℕ → List ℕ → List ℕ
-printed runs levels cells = line (runs ∷ length levels ∷ []) ++ line levels ++ runLines runs (length levels) cells
+-- Document 02, K1: "The header becomes "N m spare"", where spare is a signed number.
+unfoldable pub header : ℕ → ℕ → ℤ → List ℕ
+header N m spare = decimalDigits N ++ (32 ∷ decimalDigits m) ++ (32 ∷ signedDigits spare) ++ (10 ∷ [])
+
+-- A filled order prints the header, "the level counts, then the runs". There are as many level counts as columns.
+unfoldable pub printed : ℕ → ℤ → List ℕ → List ℕ → List ℕ
+printed runs spare levels cells = header runs (length levels) spare ++ line levels ++ runLines runs (length levels) cells

@@ -4,21 +4,24 @@ ghost use Prim.Native.Nat.{_+_, _*_, _≤_, _<_};
 ghost use mathlib.Core.List.{[], _∷_, _++_};
 ghost use lib.ListN.{length};
 ghost use Rattle.buffers.specs.Put.{Put};
-ghost use Rattle.rows.specs.Rows.{spaced, line};
-ghost use Rattle.lines.specs.Lines.{refusedLine};
+ghost use Rattle.rows.specs.Rows.{spaced};
+ghost use Rattle.lines.specs.Lines.{refusedLine, header};
 use buffers::put_byte;
 use buffers::put_bytes;
 use decimals::put_number;
+use decimals::put_signed;
 use rows::put_spaced;
 
-// The line of two numbers, as "N m".
-pub fn put_pair(buf: &mut [u8], at: usize, first: usize, second: usize) -> usize
-    requires { ⌜ at + 42 ≤ length (now buf) ⌝ }
-    ensures { λ r. ⌜ Put (now (buf .entry)) at (line (first ∷ second ∷ [])) (now (buf .exit)) r ⌝ }
+// The header of a filled order, "N m spare".
+pub fn put_header(buf: &mut [u8], at: usize, runs: usize, columns: usize, spare: i64) -> usize
+    requires { ⌜ at + 63 ≤ length (now buf) ⌝ }
+    ensures { λ r. ⌜ Put (now (buf .entry)) at (header runs columns spare) (now (buf .exit)) r ⌝ }
 {
-    let after_first = put_number(buf, at, first);
-    let after_second = put_spaced(buf, after_first, second);
-    put_byte(buf, after_second, b'\n')
+    let after_runs = put_number(buf, at, runs);
+    let after_columns = put_spaced(buf, after_runs, columns);
+    let after_space = put_byte(buf, after_columns, b' ');
+    let after_spare = put_signed(buf, after_space, spare);
+    put_byte(buf, after_spare, b'\n')
 }
 
 // The end of a line: each of some numbers with a space before it, and the line feed.

@@ -1,10 +1,11 @@
 -- MERGE carried out: the runs and the level counts that are put are those of the sheet that the definition leaves.
 -- Assumes nothing.
-use mathlib.Core.Path.{_≡_, refl, _∙_, ap}
+use mathlib.Core.Path.{_≡_, refl, sym, _∙_, ap, ap₂}
 use mathlib.Core.List.{List}
 use Prim.Native.Nat.{ℕ, _*_, _≤_}
 use native.Mathlib.Nat.{le-trans, mul-le-mul}
 use native.Mathlib.Omega.{arith}
+use lib.IntN.{ℤ}
 use lib.ListN.{length, take, drop}
 use lib.Seq.{length-take-le}
 use Rattle.buffers.specs.Put.{Put}
@@ -12,6 +13,7 @@ use Rattle.buffers.proofs.Puts.{put-length, put-part, put-front}
 use Rattle.counting.specs.Table.{Table, columns, tableOf}
 use Rattle.step_tables.specs.Sheet.{fromSources}
 use Rattle.step_tables.specs.Merge.{mergeLevels, mergeStep}
+use Rattle.spare.proofs.Steps.{merge-spare}
 use Rattle.sheets.specs.Steps.{filled}
 use Rattle.sheets.specs.declared.answer.Answer.the-variants.{Filled}
 use Rattle.layout.specs.Bytes.{runsOf, padded, Zeros, sheetIn}
@@ -79,11 +81,11 @@ module _ {p : ℕ} {numbers roles : List ℕ} {size : Size} {table levels scratc
     )
 
     -- what it then leaves
-    pub settled : {table′ levels′ : List ℕ} → length table′ ≡ length table → length levels′ ≡ length levels
-        → table′ ≡ padded (length table) (take built bytes) → levels′ ≡ padded (length levels) (take left counts)
-        → Left (filled (mergeStep p members (sheetIn table levels size))) table levels (Filled (size .runs) left) table′ levels′
+    pub settled : {table′ levels′ : List ℕ} {spared : ℤ} → length table′ ≡ length table → length levels′ ≡ length levels
+        → table′ ≡ padded (length table) (take built bytes) → levels′ ≡ padded (length levels) (take left counts) → spared ≡ size .spare
+        → Left (filled (mergeStep p members (sheetIn table levels size))) table levels (Filled (size .runs) left spared) table′ levels′
     unfolding Left sheetIn mergeStep fromSources tableOf
-    settled same-table same-levels runs-are levels-are = (
-      ap (Filled (size .runs)) left-many,
+    settled same-table same-levels runs-are levels-are kept = (
+      ap₂ (Filled (size .runs)) left-many (kept ∙ m .ready .spare-is ∙ sym (merge-spare p members sheet (m .fitting .fits))),
       built-holds next (m .ready .scratch-clear) runs-put (length table) (length levels) same-table same-levels runs-are levels-are (put-front counts-put ∙ counts-are),
     )

@@ -65,9 +65,11 @@ pub fn merge_sheet(
         levels,
         scratch,
     );
+    let spare = size.spare;
     Answer::Filled {
         runs,
         columns: left,
+        spare,
     }
 }
 

@@ -1,6 +1,6 @@
-// An answer in numbers: 01's number of a refusal, 0 for a filled order, and six details.
+// An answer in numbers: 01's number of a refusal, 0 for a filled order, and six details; and beside them the spare degrees (02, K1).
 ghost use mathlib.Core.Path.{_≡_};
-ghost use Rattle.sheets.specs.Refusals.{numbered, answerNumbers};
+ghost use Rattle.sheets.specs.Refusals.{numbered, answerNumbers, answerSpare};
 use sheets::answer::Answer;
 use sheets::answer::Refusal;
 
@@ -55,7 +55,17 @@ pub fn answer_numbers(answer: Answer) -> [usize; 7]
     ensures { λ r. ⌜ r ≡ answerNumbers answer ⌝ }
 {
     match answer {
-        Answer::Filled { runs, columns } => [0, runs, columns, 0, 0, 0, 0],
+        Answer::Filled { runs, columns, .. } => [0, runs, columns, 0, 0, 0, 0],
         Answer::Refused(why) => numbers_of(why),
+    }
+}
+
+// The spare degrees of the table that was written, and 0 where there is none.
+pub fn answer_spare(answer: Answer) -> i64
+    ensures { λ r. ⌜ r ≡ answerSpare answer ⌝ }
+{
+    match answer {
+        Answer::Filled { spare, .. } => spare,
+        Answer::Refused(_) => 0,
     }
 }

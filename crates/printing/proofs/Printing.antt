@@ -9,6 +9,7 @@ use native.Mathlib.Omega.{arith}
 use lib.ListN.{length}
 use Rattle.counting.specs.Table.{Table, columns}
 use Rattle.step_tables.specs.Sheet.{SmallEnough}
+use Rattle.spare.specs.Spare.{spare}
 use Rattle.sheets.specs.Steps.{Outcome, filled, refused}
 use Rattle.sheets.specs.Outcome.{outcome}
 use Rattle.sheets.specs.declared.answer.Refusal.the-variants.{ShortBuffers}
@@ -50,7 +51,7 @@ module _ (n m : ℕ) where
   outcome-put : (o : Outcome) → answerPrinted (answerTo o) (levelBytes m o) (tableBytes n o) ≡ outcomePrinted o
   unfolding answerTo levelBytes tableBytes padded answerPrinted outcomePrinted runsOf runOf
   outcome-put (filled S) =
-      filled-printed (S .runs) (S .levels) (runsOf S) (zeros (m - columns S)) (zeros (n - length (runsOf S))) (runs-length S)
+      filled-printed (S .runs) (spare S) (S .levels) (runsOf S) (zeros (m - columns S)) (zeros (n - length (runsOf S))) (runs-length S)
   outcome-put (refused why) = refl
 
 -- a filled outcome passed question 1
@@ -63,7 +64,7 @@ module _ {list table levels scratch : List ℕ} {answer : Answer} {table′ leve
   planned-within : (o : Outcome) → planned list (length table) (length levels) (length scratch) ≡ o → Within (length table) (length levels) o
   unfolding planned answerTo
   planned-within (filled S) e =
-      let long = promise .filled-when .0 (S .runs, columns S, promise .answered ∙ ap answerTo e) .0 in
+      let long = promise .filled-when .0 (S .runs, columns S, spare S, promise .answered ∙ ap answerTo e) .0 in
       (filled-sound list (passed (suffice (length table) (length levels) (length scratch)) (outcome list) e) .1, long .table-long, long .levels-long)
   planned-within (refused why) e = tt
 

@@ -8,13 +8,16 @@ use Prim.Native.Nat.{ℕ, _+_, _*_, _≤_, _<_}
 use native.Mathlib.Nat.{mul-one, le-trans}
 use native.Mathlib.Omega.{arith}
 use lib.Dec.{T, eqb, leb, leb→le, le→leb, lit≤}
-use lib.ListN.{length, getD, length-append, length-replicate}
+use lib.IntN.{ℤ}
+use lib.ListN.{length, getD, take, length-replicate}
 use Rattle.finite.specs.Sum.{count}
 use Rattle.finite.proofs.Counts.{count-ext}
 use Rattle.finite.proofs.Tests.{T-and}
 use Rattle.counting.specs.Table.{Table, columns, levelsOf, shows, times, combinations, Apart, Settings, InRange, Even}
 use Rattle.sheets.specs.Refusals.{refusalNumber, answerNumbers}
 use Rattle.step_tables.specs.Sheet.{Sound, SmallEnough}
+use Rattle.spare.specs.Spare.{spareOf, spare}
+use Rattle.spare.proofs.Rao.{spare-never-negative}
 use Rattle.sheets.specs.Steps.{Outcome, filled, refused}
 use Rattle.sheets.specs.Outcome.{outcome}
 use Rattle.sheets.specs.Fillable.{Fillable, orderedTable}
@@ -30,16 +33,11 @@ use Rattle.causes.specs.Causes.{Cause}
 use Rattle.causes.proofs.Refused.{refused-cause}
 use Rattle.layout.specs.Bytes.{runsOf, zeros, padded, Holds, Zeros, lengthsOf, LongEnough}
 use Rattle.layout.specs.Step.{Left}
-use Rattle.promise.specs.Promise.{suffice, planned, answerTo, plannedNumbers, tableBytes, levelBytes, Settled, EvenBytes, Delivered, Promise}
+use Rattle.promise.specs.Promise.{suffice, planned, answerTo, plannedNumbers, tableBytes, levelBytes, Settled, EvenBytes, SpareDegrees, Delivered, Promise}
 use Rattle.layout.proofs.Bytes.{runs-length, runs-cell, zeros-all}
-use Rattle.layout.proofs.Sheets.{padded-length, padded-at, cells-few}
+use Rattle.layout.proofs.Sheets.{padded-length, padded-at, padded-front, padded-within, cells-few}
 
 -- ---- a sound table in bytes is even there
-
--- what a buffer has at its front lies within it
-padded-within : (bytes front : List ℕ) → bytes ≡ padded (length bytes) front → length front ≤ length bytes
-unfolding padded
-padded-within bytes front e = omega (arith, simp length-append at (ap length e))
 
 module _ (S : Table) (table levels : List ℕ) (holds : Holds S table levels) where
   byte-level : (c : ℕ) → getD levels c 0 ≡ levelsOf S c
@@ -85,6 +83,13 @@ module _ (S : Table) (table levels : List ℕ) (holds : Holds S table levels) wh
               rw (byte-level c, byte-level d) (two-even c d x y h k apart (rw (← byte-level c) l) (rw (← byte-level d) m));
         }
 
+    pub spare-bytes : NonEmpty S → SpareDegrees (S .runs) (columns S) (spare S) levels
+    spare-bytes there =
+        record {
+          worked-out = ap (spareOf (S .runs)) (sym (ap (take (columns S)) (holds .levels-first) ∙ padded-front (length levels) (columns S) (S .levels) refl));
+          never-negative = spare-never-negative S (sound .array .even) (sound .array .in-range) (there .runs-some);
+        }
+
 -- ---- the answer and the bytes decide the rest
 
 pub long-enough : (table levels scratch : List ℕ) → T (suffice (length table) (length levels) (length scratch)) ↔ LongEnough table levels scratch
@@ -105,13 +110,14 @@ long-enough table levels scratch = (
 refused-injective : {why other : Refusal} → refused why ≡ refused other → why ≡ other
 refused-injective e = cc
 
-pub refused-unfilled : {why : Refusal} {N m : ℕ} → Refused why ≡ Filled N m → ⊥
+pub refused-unfilled : {why : Refusal} {N m : ℕ} {spared : ℤ} → Refused why ≡ Filled N m spared → ⊥
 refused-unfilled e = let none : _≡_ {A = ℕ} 0 1 = cc in absurd (omega arith)
 
--- a filled answer is the size of a table that the outcome has
-filled-answer : (o : Outcome) {N m : ℕ} → answerTo o ≡ Filled N m → (S : Table) × (o ≡ filled S) × (S .runs ≡ N) × (columns S ≡ m)
+-- a filled answer is the size of a table that the outcome has, and its spare degrees
+filled-answer : (o : Outcome) {N m : ℕ} {spared : ℤ} → answerTo o ≡ Filled N m spared
+    → (S : Table) × (o ≡ filled S) × (S .runs ≡ N) × (columns S ≡ m) × (spare S ≡ spared)
 unfolding answerTo
-filled-answer (filled S) e = (S, refl, cc, cc)
+filled-answer (filled S) e = (S, refl, cc, cc, cc)
 filled-answer (refused why) e = absurd (refused-unfilled e)
 
 -- an outcome that is filled passed question 1
@@ -179,13 +185,14 @@ module _ (list table levels scratch : List ℕ) (answer : Answer) (table′ leve
     (table-is : table′ ≡ tableBytes (length table) (planned list (length table) (length levels) (length scratch)))
     (levels-are : levels′ ≡ levelBytes (length levels) (planned list (length table) (length levels) (length scratch)))
     (scratch-is : scratch′ ≡ zeros (length scratch)) where
-  filled-conditions : (N m : ℕ) → answer ≡ Filled N m → LongEnough table levels scratch × Fillable list
-  filled-conditions N m e =
-      let (S, same, runs, many) = filled-answer _ (sym answered ∙ e) in
+  filled-conditions : (N m : ℕ) (spared : ℤ) → answer ≡ Filled N m spared → LongEnough table levels scratch × Fillable list
+  filled-conditions N m spared e =
+      let (S, same, runs, many, spare-is) = filled-answer _ (sym answered ∙ e) in
       let (long, done) = planned-passed list table levels scratch same in
       (long, filled-fillable list done .0)
 
-  conditions-filled : LongEnough table levels scratch → (f : Fillable list) → answer ≡ Filled (orderedTable list f .runs) (columns (orderedTable list f))
+  conditions-filled : LongEnough table levels scratch → (f : Fillable list)
+      → answer ≡ Filled (orderedTable list f .runs) (columns (orderedTable list f)) (spare (orderedTable list f))
   unfolding answerTo
   conditions-filled long f = answered ∙ ap answerTo (planned-filled list table levels scratch long f)
 
@@ -200,10 +207,12 @@ module _ (list table levels scratch : List ℕ) (answer : Answer) (table′ leve
         counts-are = levels-are ∙ ap (levelBytes (length levels)) fills;
       }
 
-  filled-even : (N m : ℕ) → answer ≡ Filled N m → EvenBytes N m table′ levels′
+  -- what holds of every sound table in bytes, of its size and its spare degrees, holds where they are answered
+  filled-bytes : (P : ℕ → ℕ → ℤ → Type 0) → ((S : Table) → Holds S table′ levels′ → Sound S → NonEmpty S → P (S .runs) (columns S) (spare S))
+      → (N m : ℕ) (spared : ℤ) → answer ≡ Filled N m spared → P N m spared
   unfolding tableBytes levelBytes
-  filled-even N m e =
-      let (S, same, runs, many) = filled-answer _ (sym answered ∙ e) in
+  filled-bytes P each N m spared e =
+      let (S, same, runs, many, spare-is) = filled-answer _ (sym answered ∙ e) in
       let (long, done) = planned-passed list table levels scratch same in
       let (sound, small) = filled-sound list done in
       let holds =
@@ -211,7 +220,8 @@ module _ (list table levels scratch : List ℕ) (answer : Answer) (table′ leve
       (table-is ∙ ap (tableBytes (length table)) same)
       (levels-are ∙ ap (levelBytes (length levels)) same)
       in
-      subst (λ n. EvenBytes n m table′ levels′) runs (subst (λ k. EvenBytes (S .runs) k table′ levels′) many (even-bytes S table′ levels′ holds sound (filled-some list done)))
+      subst (λ n. P n m spared) runs
+      (subst (λ k. P (S .runs) k spared) many (subst (P (S .runs) (columns S)) spare-is (each S holds sound (filled-some list done))))
 
   refused-for : (why : Refusal) → answer ≡ Refused why
       → ((1 ≤ refusalNumber why) × (refusalNumber why ≤ 11)) × Cause list (lengthsOf table levels scratch) why
@@ -227,9 +237,10 @@ module _ (list table levels scratch : List ℕ) (answer : Answer) (table′ leve
         table-is = table-is;
         levels-are = levels-are;
         scratch-is = scratch-is;
-        filled-when = (λ p. filled-conditions (p .0) (p .1) (p .2), λ q. (_, _, conditions-filled (q .0) (q .1)));
+        filled-when = (λ p. filled-conditions (p .0) (p .1) (p .2) (p .3), λ q. (_, _, _, conditions-filled (q .0) (q .1)));
         ordered = conditions-ordered;
-        even = filled-even;
+        even = filled-bytes (λ N m spared. EvenBytes N m table′ levels′) (λ S holds sound there. even-bytes S table′ levels′ holds sound there);
+        spare-is = filled-bytes (λ N m spared. SpareDegrees N m spared levels′) (λ S holds sound there. spare-bytes S table′ levels′ holds sound there);
         refused-for = refused-for;
         in-numbers = in-numbers;
       }
@@ -242,11 +253,11 @@ unfolding Left answerTo
 left-answer (filled S) was-table was-levels table levels left = left .0
 left-answer (refused why) was-table was-levels table levels left = left .0
 
-left-filled : (x : Outcome) (was-table was-levels : List ℕ) (n m : ℕ) (table levels : List ℕ) → Left x was-table was-levels (Filled n m) table levels
+left-filled : (x : Outcome) (was-table was-levels : List ℕ) (n m : ℕ) (spared : ℤ) (table levels : List ℕ) → Left x was-table was-levels (Filled n m spared) table levels
     → (table ≡ tableBytes (length table) x) × (levels ≡ levelBytes (length levels) x)
 unfolding Left tableBytes levelBytes
-left-filled (filled S) was-table was-levels n m table levels left = (left .1 .runs-first, left .1 .levels-first)
-left-filled (refused why) was-table was-levels n m table levels left = absurd (refused-unfilled (sym (left .0)))
+left-filled (filled S) was-table was-levels n m spared table levels left = (left .1 .runs-first, left .1 .levels-first)
+left-filled (refused why) was-table was-levels n m spared table levels left = absurd (refused-unfilled (sym (left .0)))
 
 left-refused : (x : Outcome) (was-table was-levels : List ℕ) (why : Refusal) (table levels : List ℕ) → Left x was-table was-levels (Refused why) table levels
     → x ≡ refused why
@@ -264,12 +275,12 @@ unfolding planned
 planned-long list n m k long = ap (λ b. cond b (outcome list) (refused ShortBuffers)) long
 
 -- what a filled outcome leaves
-pub settled-filled : (x : Outcome) (was-table was-levels : List ℕ) {answer : Answer} (n m : ℕ) {table levels : List ℕ} → answer ≡ Filled n m
-    → Left x was-table was-levels answer table levels
-    → Settled x (Filled n m) table levels
-settled-filled x was-table was-levels n m {table} {levels} is left =
-    let fills = rw is at left in
-    let bytes = left-filled x was-table was-levels n m table levels fills in
+pub settled-filled : (x : Outcome) (was-table was-levels : List ℕ) {answer : Answer} (n m : ℕ) {spared kept : ℤ} {table levels : List ℕ} → answer ≡ Filled n m spared
+    → kept ≡ spared → Left x was-table was-levels answer table levels
+    → Settled x (Filled n m kept) table levels
+settled-filled x was-table was-levels n m {spared} {kept} {table} {levels} is same left =
+    let fills : Left x was-table was-levels (Filled n m kept) table levels = rw (is ∙ ap (Filled n m) (sym same)) at left in
+    let bytes = left-filled x was-table was-levels n m kept table levels fills in
     record { answered = left-answer x was-table was-levels table levels fills; table-is = bytes .0; levels-are = bytes .1 }
 
 -- zeros, where the outcome is a refusal

@@ -1,13 +1,17 @@
--- What `plan` promises: demands 1, 2 and 3, over every list and whatever the buffers held (document 01, "The questions, in turn").
+-- What `plan` promises: demands 1, 2 and 3, over every list and whatever the buffers held (document 01, "The questions, in turn"), with the spare
+-- degrees of a filled order (02, K1).
 use mathlib.Core.Path.{_≡_}
 use mathlib.Core.Logic.{_≢_, _↔_}
 use mathlib.Core.Bool.{Bool, cond, _&&_}
 use mathlib.Core.List.{List, [], _∷_}
 use Prim.Native.Nat.{ℕ, _+_, _*_, _≤_, _<_}
 use lib.Dec.{eqb, leb}
-use lib.ListN.{length, getD}
+use lib.IntN.{ℤ, pos}
+use lib.ListN.{length, getD, take}
+use lib.Signed.{_≤ℤ_}
 use Rattle.finite.specs.Sum.{count}
 use Rattle.counting.specs.Table.{Table, columns}
+use Rattle.spare.specs.Spare.{spareOf, spare}
 use Rattle.sheets.specs.Refusals.{numbered, refusalNumber, answerNumbers}
 use Rattle.sheets.specs.Steps.{Outcome, filled, refused}
 use Rattle.sheets.specs.Outcome.{outcome}
@@ -27,9 +31,9 @@ suffice n m k = leb 65536 n && leb 128 m && leb 65536 k
 unfoldable pub planned : List ℕ → ℕ → ℕ → ℕ → Outcome
 planned list n m k = cond (suffice n m k) (outcome list) (refused ShortBuffers)
 
--- the answer: the table's size, or why there is none
+-- the answer: the table's size and its spare degrees, or why there is none
 unfoldable pub answerTo : Outcome → Answer
-answerTo (filled S) = Filled (S .runs) (columns S)
+answerTo (filled S) = Filled (S .runs) (columns S) (spare S)
 answerTo (refused why) = Refused why
 
 -- and the same in 01's numbers
@@ -69,9 +73,15 @@ pub record EvenBytes (N m : ℕ) (table levels : List ℕ) : Type 0 where
   pub pairs-even : (c d x y : ℕ) → c < m → d < m → c ≢ d → x < getD levels c 0 → y < getD levels d 0
       → getD levels c 0 * getD levels d 0 * count N (λ r. eqb (getD table (r * m + c) 0) x && eqb (getD table (r * m + d) 0) y) ≡ N
 
--- What is handed back where S is the table that was ordered: its size, its runs and its level counts, in buffers of n and m bytes.
+-- The spare degrees that were answered are those of the table that was handed back, of N runs with the first m level counts of the level list, and
+-- they are never negative (Rao's bound at strength two).
+pub record SpareDegrees (N m : ℕ) (spared : ℤ) (levels : List ℕ) : Type 0 where
+  pub worked-out : spared ≡ spareOf N (take m levels)
+  pub never-negative : pos 0 ≤ℤ spared
+
+-- What is handed back where S is the table that was ordered: its size, its spare degrees, its runs and its level counts, in buffers of n and m bytes.
 pub record Delivered (S : Table) (n m : ℕ) (answer : Answer) (table levels : List ℕ) : Type 0 where
-  pub size-is : answer ≡ Filled (S .runs) (columns S)
+  pub size-is : answer ≡ Filled (S .runs) (columns S) (spare S)
   pub runs-are : table ≡ padded n (runsOf S)
   pub counts-are : levels ≡ padded m (S .levels)
 
@@ -83,11 +93,13 @@ pub record Promise (list table levels scratch : List ℕ) (answer : Answer) (tab
   pub levels-are : levels′ ≡ levelBytes (length levels) (planned list (length table) (length levels) (length scratch))
   pub scratch-is : scratch′ ≡ zeros (length scratch)
   -- filled exactly when the stated conditions hold
-  pub filled-when : ((N : ℕ) × (m : ℕ) × (answer ≡ Filled N m)) ↔ (LongEnough table levels scratch × Fillable list)
-  -- and then size, runs and level counts are those of the table that the conditions' constructions give
+  pub filled-when : ((N : ℕ) × (m : ℕ) × (spared : ℤ) × (answer ≡ Filled N m spared)) ↔ (LongEnough table levels scratch × Fillable list)
+  -- and then size, spare degrees, runs and level counts are those of the table that the conditions' constructions give
   pub ordered : LongEnough table levels scratch → (f : Fillable list) → Delivered (orderedTable list f) (length table) (length levels) answer table′ levels′
   -- in which every column and every two columns are even
-  pub even : (N m : ℕ) → answer ≡ Filled N m → EvenBytes N m table′ levels′
+  pub even : (N m : ℕ) (spared : ℤ) → answer ≡ Filled N m spared → EvenBytes N m table′ levels′
+  -- and whose spare degrees are answered
+  pub spare-is : (N m : ℕ) (spared : ℤ) → answer ≡ Filled N m spared → SpareDegrees N m spared levels′
   -- a refusal is one of the eleven, its number is 01's, and its cause holds: the first No, with all that its details name
   pub refused-for : (why : Refusal) → answer ≡ Refused why
       → ((1 ≤ refusalNumber why) × (refusalNumber why ≤ 11)) × Cause list (lengthsOf table levels scratch) why

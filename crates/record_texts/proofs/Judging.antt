@@ -8,6 +8,7 @@ use Prim.Native.Nat.{ℕ, _+_, _*_, _-_, _≤_, _<_}
 use native.Mathlib.Omega.{arith}
 use borrow.Author.Tests.{eq-eqb, ne-eqb}
 use lib.Dec.{eqb}
+use lib.IntN.{ℤ}
 use lib.ListN.{length, getD, take, drop, take-append-drop}
 use lib.Seq.{drop-at, length-take-le}
 use Rattle.counting.specs.Table.{columns}
@@ -114,7 +115,7 @@ judged-unread place stored e f = rw (f, e)
 
 -- The number of an answer.
 module _ {answer : Answer} where
-  pub filled-number : {runs columns : ℕ} → answer ≡ Filled runs columns → 0 ≡ answerNumber answer
+  pub filled-number : {runs columns : ℕ} {spared : ℤ} → answer ≡ Filled runs columns spared → 0 ≡ answerNumber answer
   unfolding answerNumber
   filled-number e = rw e
 
@@ -124,11 +125,11 @@ module _ {answer : Answer} where
 
   -- The bytes after it: their place is within the run table, and they are looked at from there on.
   module _ (levels table : List ℕ) where
-    pub cells-within : {runs columns : ℕ} → answer ≡ Filled runs columns → Printable answer levels table → runs * columns ≤ length table
+    pub cells-within : {runs columns : ℕ} {spared : ℤ} → answer ≡ Filled runs columns spared → Printable answer levels table → runs * columns ≤ length table
     unfolding Printable
     cells-within e fits = (rw e at fits) .cells-there
 
-    pub filled-rest : {runs columns : ℕ} {a b : Bool} → answer ≡ Filled runs columns → a ≡ allZero (drop columns levels)
+    pub filled-rest : {runs columns : ℕ} {spared : ℤ} {a b : Bool} → answer ≡ Filled runs columns spared → a ≡ allZero (drop columns levels)
         → b ≡ allZero (drop (runs * columns) table)
         → (a && b) ≡ restZero answer levels table
     unfolding restZero

@@ -39,7 +39,7 @@ cameTo (unread place) lengths = refused (Unreadable place)
 
 -- Document 01's number of a refusal, and 0 for an order that is filled.
 unfoldable pub answerNumber : Answer → ℕ
-answerNumber (Filled runs columns) = 0
+answerNumber (Filled runs columns spared) = 0
 answerNumber (Refused why) = getD (numbered why) 0 0
 
 -- What is judged of an order that comes to an outcome, where these bytes are stored after it: they are the same if they are "=", the end of the line,
@@ -55,5 +55,5 @@ judged bytes lengths =
 
 -- All bytes after those of an answer, in the level list and the run table, are zero.
 unfoldable pub restZero : Answer → List ℕ → List ℕ → Bool
-restZero (Filled runs columns) levels table = allZero (drop columns levels) && allZero (drop (runs * columns) table)
+restZero (Filled runs columns spared) levels table = allZero (drop columns levels) && allZero (drop (runs * columns) table)
 restZero (Refused why) levels table = allZero levels && allZero table

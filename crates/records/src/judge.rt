@@ -173,10 +173,7 @@ fn number_of(answer: Answer) -> usize
     ensures { λ r. ⌜ r ≡ answerNumber answer ⌝ }
 {
     match answer {
-        Answer::Filled {
-            runs: _,
-            columns: _,
-        } => 0,
+        Answer::Filled { .. } => 0,
         Answer::Refused(why) => {
             let numbers = numbers_of(why);
             numbers[0]
@@ -190,7 +187,7 @@ fn rest_is_zero(answer: Answer, levels: &[u8], table: &[u8]) -> bool
     ensures { λ r. ⌜ r ≡ restZero answer (now (levels .entry)) (now (table .entry)) ⌝ }
 {
     match answer {
-        Answer::Filled { runs, columns } => {
+        Answer::Filled { runs, columns, .. } => {
             zero_from(levels, columns) & zero_from(table, runs * columns)
         }
         Answer::Refused(_) => zero_from(levels, 0) & zero_from(table, 0),

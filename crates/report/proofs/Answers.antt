@@ -1,20 +1,22 @@
 -- What is printed of an answer, as the parts that are put one after the other, and the room that each of them finds.
 -- Assumes nothing.
 use mathlib.Core.Path.{_≡_, sym, _∙_}
-use mathlib.Core.List.{List, [], _∷_, _++_}
+use mathlib.Core.List.{List}
 use Prim.Native.Nat.{ℕ, _+_, _*_, _-_, _≤_, _<_}
 use native.Mathlib.Nat.{le-antisymm, zero-mul, suc-mul, mul-le-mul, mul-le-mul-right}
 use native.Mathlib.Numerals.{add-one}
 use native.Mathlib.Omega.{arith}
+use lib.IntN.{ℤ}
 use lib.ListN.{length, take, drop, length-append, length-take}
 use lib.Seq.{length-take-le}
+use mir.Syntax.{w64}
+use mir.Val.{SFits}
 use Rattle.buffers.specs.Put.{Put, Bytes}
 use Rattle.buffers.proofs.Puts.{put-none, put-join, put-length}
-use Rattle.decimals.specs.Decimals.{decimalDigits}
 use Rattle.rows.specs.Rows.{line}
-use Rattle.lines.specs.Lines.{refusedLine, runLines, printed}
+use Rattle.lines.specs.Lines.{refusedLine, header, runLines, printed}
 use Rattle.decimals.proofs.Decimals.{decimal-length}
-use Rattle.lines.proofs.Pairs.{line-pair}
+use Rattle.decimals.proofs.Signed.{signed-word}
 use Rattle.lines.proofs.Runs.{runs-snoc, take-small, line-length, runs-length}
 use Rattle.sheets.specs.Refusals.{numbered}
 use Rattle.sheets.specs.declared.answer.Refusal.{Refusal}
@@ -60,15 +62,15 @@ module _ {columns : ℕ} {cells a : List ℕ} {at n : ℕ} {b : List ℕ} {end s
         starts = rw add-one (omega (arith, so-far .starts, suc-mul n columns));
       }
 
-size-length : (m n : ℕ) → m < 1000 → n < 1000 → length (line (m ∷ n ∷ [])) ≤ 8
-size-length m n first second =
-    let numbers = length-append (decimalDigits m) (32 ∷ decimalDigits n) in
-    let whole = length-append (decimalDigits m ++ (32 ∷ decimalDigits n)) (10 ∷ []) in
+header-length : (m n : ℕ) (spare : ℤ) → m < 1000 → n < 1000 → SFits w64 spare → length (header m n spare) ≤ 29
+unfolding header
+header-length m n spare first second word =
     let left = decimal-length 2 m first in
     let right = decimal-length 2 n second in
-    rw line-pair (omega arith)
+    let last = signed-word spare word in
+    simp length-append (omega arith)
 
--- A table within the limits: the size and the level counts are put, then the runs.
+-- A table within the limits: the header and the level counts are put, then the runs.
 module _ {runs columns : ℕ} {levels cells : List ℕ} (fits : TableInBuffers runs columns levels cells) where
   pub many : length (take columns levels) ≡ columns
   many = length-take-le columns levels (fits .levels-there)
@@ -78,21 +80,21 @@ module _ {runs columns : ℕ} {levels cells : List ℕ} (fits : TableInBuffers r
       let wide : 4 * columns + 1 ≤ 513 = omega (arith, fits .narrow) in
       mul-le-mul (fits .few) wide
 
-  module _ {m n : ℕ} {a b : List ℕ} {j : ℕ} (size : Put a 0 (line (m ∷ n ∷ [])) b j) (first : m < 1000) (second : n < 1000) where
+  module _ {m n : ℕ} {spare : ℤ} {a b : List ℕ} {j : ℕ} (head : Put a 0 (header m n spare) b j) (first : m < 1000) (second : n < 1000) (word : SFits w64 spare) where
     pub levels-room : answerRoom ≤ length a → j + 4 * length (take columns levels) < length b
-    levels-room room = omega (arith, many, fits .narrow, size .ends, size-length m n first second, put-length size)
+    levels-room room = omega (arith, many, fits .narrow, head .ends, header-length m n spare first second word, put-length head)
 
     pub runs-room : {c : List ℕ} {k : ℕ} → Put b j (line (take columns levels)) c k → Bytes levels → answerRoom ≤ length a
         → k + runs * (4 * columns + 1) ≤ length c
     runs-room counts small room =
         let long = line-length (take columns levels) (take-small columns levels small) in
-        let kept = put-length counts ∙ put-length size in
-        omega (arith, many, fits .narrow, size .ends, size-length m n first second, counts .ends, long, kept, runs-wide)
+        let kept = put-length counts ∙ put-length head in
+        omega (arith, many, fits .narrow, head .ends, header-length m n spare first second word, counts .ends, long, kept, runs-wide)
 
-  pub put-printed : {a b c d : List ℕ} {j k l : ℕ} → Put a 0 (line (runs ∷ columns ∷ [])) b j → Put b j (line (take columns levels)) c k
-      → Put c k (runLines runs columns cells) d l → Put a 0 (printed runs (take columns levels) cells) d l
+  pub put-printed : (spare : ℤ) {a b c d : List ℕ} {j k l : ℕ} → Put a 0 (header runs columns spare) b j → Put b j (line (take columns levels)) c k
+      → Put c k (runLines runs columns cells) d l → Put a 0 (printed runs spare (take columns levels) cells) d l
   unfolding printed
-  put-printed size counts q = rw many (put-join (put-join size counts) q)
+  put-printed spare head counts q = rw many (put-join (put-join head counts) q)
 
 -- A refusal's line, from its numbers.
 pub put-refusal-line : (why : Refusal) {numbers a b : List ℕ} {j : ℕ} → numbers ≡ numbered why → Put a 0 (refusedLine numbers) b j → Put a 0 (refusalLine why) b j

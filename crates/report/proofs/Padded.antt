@@ -3,12 +3,13 @@
 use mathlib.Core.Path.{_≡_, refl, _∙_, ap, ap₂}
 use mathlib.Core.List.{List, [], _∷_, _++_}
 use Prim.Native.Nat.{ℕ, zero, suc, _*_, _≤_}
+use lib.IntN.{ℤ}
 use native.Mathlib.Nat.{suc-mul}
 use native.Mathlib.Omega.{arith}
 use lib.ListN.{length, take, drop, length-drop}
 use lib.Seq.{take-at}
 use Rattle.rows.specs.Rows.{line}
-use Rattle.lines.specs.Lines.{runLines, printed}
+use Rattle.lines.specs.Lines.{header, runLines, printed}
 use Rattle.sheets.specs.declared.answer.Answer.the-variants.{Filled}
 use Rattle.report.specs.Report.{answerPrinted}
 
@@ -30,9 +31,9 @@ runs-front (suc runs) m cells rest h =
     (ap (runLines runs m) (drop-front m cells rest room)
     ∙ runs-front runs m (drop m cells) rest (omega (arith, length-drop m cells, suc-mul runs m)))
 
-pub filled-printed : (runs : ℕ) (levels cells after-levels after-cells : List ℕ) → length cells ≡ runs * length levels
-    → answerPrinted (Filled runs (length levels)) (levels ++ after-levels) (cells ++ after-cells) ≡ printed runs levels cells
+pub filled-printed : (runs : ℕ) (spare : ℤ) (levels cells after-levels after-cells : List ℕ) → length cells ≡ runs * length levels
+    → answerPrinted (Filled runs (length levels) spare) (levels ++ after-levels) (cells ++ after-cells) ≡ printed runs spare levels cells
 unfolding answerPrinted printed
-filled-printed runs levels cells after-levels after-cells whole =
-    ap (λ (l : List ℕ). printed runs l (cells ++ after-cells)) (take-at levels after-levels (length levels) refl)
-    ∙ ap (λ (l : List ℕ). line (runs ∷ length levels ∷ []) ++ line levels ++ l) (runs-front runs (length levels) cells after-cells whole)
+filled-printed runs spare levels cells after-levels after-cells whole =
+    ap (λ (l : List ℕ). printed runs spare l (cells ++ after-cells)) (take-at levels after-levels (length levels) refl)
+    ∙ ap (λ (l : List ℕ). header runs (length levels) spare ++ line levels ++ l) (runs-front runs (length levels) cells after-cells whole)

@@ -1,9 +1,10 @@
--- What is printed of an answer: document 01, "Printed runs".
+-- What is printed of an answer: document 01, "Printed runs", with the header of document 02, K1.
 use mathlib.Core.List.{List, map, flatMap}
 use Prim.Native.Nat.{ℕ, _*_, _≤_}
 use lib.ListN.{length, take}
 use Rattle.finite.specs.Lists.{from}
 use Rattle.counting.specs.Table.{columns}
+use Rattle.spare.specs.Spare.{spare}
 use Rattle.lines.specs.Lines.{refusedLine, printed}
 use Rattle.words.specs.Words.{Reading, numbers, refused, reading}
 use Rattle.sheets.specs.Refusals.{numbered}
@@ -18,12 +19,12 @@ use Rattle.sheets.specs.declared.answer.Answer.the-variants.{Filled, Refused}
 unfoldable pub refusalLine : Refusal → List ℕ
 refusalLine why = refusedLine (numbered why)
 
--- What is printed of an answer, with the level list and the run table that came with it: of a filled order "N m", the level counts and the runs.
+-- What is printed of an answer, with the level list and the run table that came with it: of a filled order "N m spare", the level counts and the runs.
 unfoldable pub answerPrinted : Answer → List ℕ → List ℕ → List ℕ
-answerPrinted (Filled runs columns) levels cells = printed runs (take columns levels) cells
+answerPrinted (Filled runs columns spared) levels cells = printed runs spared (take columns levels) cells
 answerPrinted (Refused why) levels cells = refusalLine why
 
--- Room for any answer: 514 lines (the size, the level counts and 512 runs) of at most 513 bytes.
+-- Room for any answer: 514 lines (the header, the level counts and 512 runs) of at most 513 bytes.
 abbrev pub answerRoom : ℕ
 answerRoom = 263682
 
@@ -35,12 +36,12 @@ pub record TableInBuffers (runs columns : ℕ) (levels cells : List ℕ) : Type 
   pub cells-there : runs * columns ≤ length cells
 
 unfoldable pub Printable : Answer → List ℕ → List ℕ → Type 0
-Printable (Filled runs columns) levels cells = TableInBuffers runs columns levels cells
+Printable (Filled runs columns spared) levels cells = TableInBuffers runs columns levels cells
 Printable (Refused why) levels cells = Unit {0}
 
 -- What the program prints, from what it reads, both as bytes. First of an outcome: the table run by run, or the refusal.
 unfoldable pub outcomePrinted : steps.Outcome → List ℕ
-outcomePrinted (steps.filled S) = printed (S .runs) (S .levels) (flatMap (λ r. map (S .cell r) (from 0 (columns S))) (from 0 (S .runs)))
+outcomePrinted (steps.filled S) = printed (S .runs) (spare S) (S .levels) (flatMap (λ r. map (S .cell r) (from 0 (columns S))) (from 0 (S .runs)))
 outcomePrinted (steps.refused why) = refusalLine why
 
 -- "The first word that is no decimal number up to 65,535, or else the 32,769th word, whichever comes earlier, is refused as 2 at its place before

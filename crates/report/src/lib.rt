@@ -5,7 +5,7 @@ ghost use lib.ListN.{length, take};
 ghost use Rattle.buffers.specs.Put.{Put};
 ghost use Rattle.lines.specs.Lines.{runLines, printed};
 ghost use Rattle.report.specs.Report.{refusalLine, answerPrinted, answerRoom, Printable, TableInBuffers};
-use lines::put_pair;
+use lines::put_header;
 use lines::put_refusal;
 use numbering::numbers_of;
 use rows::put_row;
@@ -38,14 +38,21 @@ fn put_runs(buf: &mut [u8], at: usize, runs: usize, columns: usize, cells: &[u8]
     place
 }
 
-// A table of so many runs and columns: the size, the level counts and the runs.
-fn put_table(buf: &mut [u8], runs: usize, columns: usize, levels: &[u8], cells: &[u8]) -> usize
+// A table of so many runs and columns: the header, the level counts and the runs.
+fn put_table(
+    buf: &mut [u8],
+    runs: usize,
+    columns: usize,
+    spare: i64,
+    levels: &[u8],
+    cells: &[u8],
+) -> usize
     requires { ⌜ answerRoom ≤ length (now buf) ⌝ }
     requires { ⌜ TableInBuffers runs columns (now levels) (now cells) ⌝ }
-    ensures { λ r. ⌜ Put (now (buf .entry)) 0 (printed runs (take columns (now (levels .entry))) (now (cells .entry))) (now (buf .exit)) r ⌝ }
+    ensures { λ r. ⌜ Put (now (buf .entry)) 0 (printed runs spare (take columns (now (levels .entry))) (now (cells .entry))) (now (buf .exit)) r ⌝ }
 {
-    let after_size = put_pair(buf, 0, runs, columns);
-    let after_levels = put_row(buf, after_size, &levels[..columns]);
+    let after_header = put_header(buf, 0, runs, columns, spare);
+    let after_levels = put_row(buf, after_header, &levels[..columns]);
     put_runs(buf, after_levels, runs, columns, cells)
 }
 
@@ -56,7 +63,11 @@ pub fn put_answer(buf: &mut [u8], answer: Answer, levels: &[u8], cells: &[u8]) -
     ensures { λ r. ⌜ Put (now (buf .entry)) 0 (answerPrinted answer (now (levels .entry)) (now (cells .entry))) (now (buf .exit)) r ⌝ }
 {
     match answer {
-        Answer::Filled { runs, columns } => put_table(buf, runs, columns, levels, cells),
+        Answer::Filled {
+            runs,
+            columns,
+            spare,
+        } => put_table(buf, runs, columns, spare, levels, cells),
         Answer::Refused(why) => put_refused(buf, why),
     }
 }

@@ -1,6 +1,7 @@
 -- The numbers of a refusal and of an answer: document 01, "The questions, in turn".
 use mathlib.Core.List.{List, [], _∷_}
 use Prim.Native.Nat.{ℕ}
+use lib.IntN.{ℤ, pos}
 use lib.ListN.{getD}
 use Rattle.sheets.specs.declared.answer.Answer.{Answer}
 use Rattle.sheets.specs.declared.answer.Answer.the-variants.{Filled, Refused}
@@ -27,5 +28,10 @@ refusalNumber why = getD (numbered why) 0 0
 
 -- An answer as seven numbers: a filled order has 0 in the place of a refusal's number, and then the numbers of runs and columns.
 unfoldable pub answerNumbers : Answer → List ℕ
-answerNumbers (Filled N m) = 0 ∷ N ∷ m ∷ 0 ∷ 0 ∷ 0 ∷ 0 ∷ []
+answerNumbers (Filled N m spared) = 0 ∷ N ∷ m ∷ 0 ∷ 0 ∷ 0 ∷ 0 ∷ []
 answerNumbers (Refused why) = numbered why
+
+-- And beside them the spare degrees of a filled order, a signed number (02, K1); a refused order has 0 there.
+unfoldable pub answerSpare : Answer → ℤ
+answerSpare (Filled N m spared) = spared
+answerSpare (Refused why) = pos 0

@@ -56,8 +56,12 @@ pub enum Refusal {
     },
 }
 
-// The size of the table that was written, or why there is none.
+// The size of the table that was written and its spare degrees (02, K1), or why there is none.
 pub enum Answer {
-    Filled { runs: usize, columns: usize },
+    Filled {
+        runs: usize,
+        columns: usize,
+        spare: i64,
+    },
     Refused(Refusal),
 }

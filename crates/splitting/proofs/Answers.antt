@@ -1,11 +1,17 @@
--- The sizes that SPLIT answers, once its parts fit: those of the next sheet, and whether it is small enough.
+-- The sizes and the spare degrees that SPLIT answers, once its parts fit: those of the next sheet, and whether it is small enough.
 -- Assumes nothing.
-use mathlib.Core.Path.{_≡_, sym, _∙_, ap}
+use mathlib.Core.Path.{_≡_, sym, _∙_, ap, ap₂}
 use mathlib.Core.List.{List}
 use Prim.Native.Nat.{ℕ, _+_, _-_, _≤_}
+use lib.IntN.{ℤ, _+ℤ_}
+use mir.Syntax.{w64}
+use mir.Val.{SFits}
 use Rattle.counting.specs.Table.{Table, columns, tableOf}
-use Rattle.step_tables.specs.Sheet.{SmallEnough, fromSources}
+use Rattle.step_tables.specs.Sheet.{LevelsAtMost, SmallEnough, fromSources}
 use Rattle.step_tables.specs.Split.{SplitFits, splitStep}
+use Rattle.spare.specs.Spare.{spare}
+use Rattle.spare.proofs.Steps.{split-spare}
+use Rattle.spare.proofs.Totals.{spares-fit}
 use Rattle.sheets.specs.declared.answer.Refusal.the-variants.{TooLarge}
 use Rattle.sheets.specs.declared.answer.Answer.the-variants.{Filled, Refused}
 use Rattle.layout.specs.Bytes.{sheetIn}
@@ -20,9 +26,12 @@ module _ {list : List ℕ} {size : Size} {table levels scratch : List ℕ} (read
     answered-columns : size .columns - 1 + m ≡ columns (splitStep c U (sheetIn table levels size))
     answered-columns = ap (λ (k : ℕ). size .columns - 1 + k) counted ∙ sym (next-columns ready c U fits)
 
-    pub filled-answer : Filled (size .runs) (size .columns - 1 + m) ≡ Filled (splitStep c U (sheetIn table levels size) .runs) (columns (splitStep c U (sheetIn table levels size)))
+    pub filled-answer : {spared : ℤ} → spared ≡ size .spare +ℤ spare U
+        → Filled (size .runs) (size .columns - 1 + m) spared
+        ≡ Filled (splitStep c U (sheetIn table levels size) .runs) (columns (splitStep c U (sheetIn table levels size))) (spare (splitStep c U (sheetIn table levels size)))
     unfolding splitStep fromSources sheetIn tableOf
-    filled-answer = ap (Filled (size .runs)) answered-columns
+    filled-answer added =
+        ap₂ (Filled (size .runs)) answered-columns (added ∙ ap (λ x. x +ℤ spare U) (ready .spare-is) ∙ sym (split-spare c U (sheetIn table levels size) fits))
 
     pub large-answer : (n : ℕ) → Refused (TooLarge n (size .runs) (size .columns - 1 + m)) ≡ Refused (TooLarge n (sheetIn table levels size .runs) (columns (splitStep c U (sheetIn table levels size))))
     unfolding sheetIn tableOf
@@ -31,3 +40,8 @@ module _ {list : List ℕ} {size : Size} {table levels scratch : List ℕ} (read
   pub next-small : size .columns - 1 + columns U ≤ 128 → SmallEnough (splitStep c U (sheetIn table levels size))
   unfolding splitStep fromSources sheetIn tableOf
   next-small h = record { runs-most = ready-runs ready; columns-most = rw (next-columns ready c U fits) h }
+
+-- the spare degrees of the sheet in hand and of a table that keeps the limits add up to a number of 64 bits
+pub spare-room : {list : List ℕ} {size : Size} {table levels scratch : List ℕ} → Ready list size table levels scratch
+    → {U : Table} {spared : ℤ} → SmallEnough U → LevelsAtMost 64 U → spared ≡ spare U → SFits w64 (size .spare +ℤ spared)
+spare-room ready small most put-in = rw (ready .spare-is, put-in) (spares-fit _ _ (ready .small) (ready .sound .levels-most) small most)

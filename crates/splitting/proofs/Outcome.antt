@@ -12,13 +12,14 @@ use Rattle.counting.specs.Table.{Table, columns}
 use Rattle.order.specs.Order.{SPLIT, StepLimits}
 use Rattle.order.specs.Grammar.{readOrder}
 use Rattle.order.proofs.Segment.{segment-in}
-use Rattle.step_tables.specs.Sheet.{SmallEnough, fromSources, smallEnough}
+use Rattle.step_tables.specs.Sheet.{LevelsAtMost, SmallEnough, fromSources, smallEnough}
 use Rattle.step_tables.specs.Split.{splitFits, splitStep}
 use Rattle.sheets.specs.Steps.{filled, refused, provided, split, operation, fits, wrongMember, applied, sized, afterSums, operate, laterStep}
 use Rattle.sheets.specs.declared.answer.Refusal.the-variants.{StepNotAllowed, PartsDoNotFit, TooLarge}
 use Rattle.ingredients.specs.Named.{namedTable, tableIn, Legible, someTable}
 use Rattle.ingredients.specs.declared.named.NamedTable.{NamedTable}
 use Rattle.ingredients.specs.declared.named.NamedTable.the-variants.{Missing}
+use Rattle.ingredients.proofs.NamedLaws.{TableLimits}
 use Rattle.layout.specs.Step.{Readable, Stands, laterIn}
 use Rattle.layout.proofs.Operands.{later-in, operands-stand, named-is, legible-table, table-limits}
 use Rattle.sheets.proofs.Carried.{filled-sized}
@@ -37,8 +38,15 @@ module _ {list : List ℕ} {at : ℕ} (readable : Readable list) (stands : Stand
     pub legible : Legible list N
     legible = rw found (legible-table readable (getD list (at + 1) 0) (operand-limits .1))
 
+    limits : TableLimits (tableIn list N)
+    limits = rw found (table-limits readable (getD list (at + 1) 0) (operand-limits .1))
+
     pub small : SmallEnough (tableIn list N)
-    small = rw found (table-limits readable (getD list (at + 1) 0) (operand-limits .1) .small)
+    small = limits .small
+
+    pub few-levels : LevelsAtMost 64 (tableIn list N)
+    unfolding LevelsAtMost
+    few-levels c h = limits .level-limits c h .1
 
     module _ (n : ℕ) (S : Table) where
       comes-to : laterIn list n S 5 at ≡ provided (Option·map (split (getD list at 0 - 1)) (someTable list N)) (StepNotAllowed n) (operate n S)

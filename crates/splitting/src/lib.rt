@@ -4,6 +4,8 @@ ghost use mathlib.Core.Path.{_≡_};
 ghost use mathlib.Core.Bool.{_&&_};
 ghost use lib.Dec.{eqb, ltb};
 ghost use lib.ListN.{length, getD};
+ghost use Rattle.step_tables.specs.Sheet.{SmallEnough};
+ghost use Rattle.spare.specs.Spare.{spare};
 ghost use Rattle.ingredients.specs.Named.{tableIn, Legible};
 ghost use Rattle.layout.specs.Bytes.{Zeros, sheetIn};
 ghost use Rattle.layout.specs.Step.{Stands, Ready, laterIn, Left};
@@ -12,7 +14,9 @@ use ingredients::named::table_named;
 use layout::Size;
 use sheets::answer::Answer;
 use sheets::answer::Refusal;
+use spare::spare_of;
 use split_sheet::split_column;
+use table_putting::put_level_counts;
 use table_reading::column_count;
 use table_reading::run_count;
 
@@ -22,6 +26,17 @@ fn parts_fit(list: &[u16], named: NamedTable, c: usize, levels: &[u8]) -> bool
     ensures { λ r. ⌜ r ≡ (ltb c (length (now (levels .entry))) && eqb (tableIn (now (list .entry)) named .runs) (getD (now (levels .entry)) c 0)) ⌝ }
 {
     c < levels.len() && run_count(list, named) == levels[c] as usize
+}
+
+// The spare degrees of the table, from its level counts.
+fn table_spare(list: &[u16], named: NamedTable) -> i64
+    requires { ⌜ Legible (now list) named ⌝ }
+    requires { ⌜ SmallEnough (tableIn (now list) named) ⌝ }
+    ensures { λ r. ⌜ r ≡ spare (tableIn (now (list .entry)) named) ⌝ }
+{
+    let mut counts = [0u8; 128];
+    let columns = put_level_counts(list, named, &mut counts, 0);
+    spare_of(run_count(list, named), columns, &counts)
 }
 
 // The questions come before any byte is written.
@@ -58,5 +73,10 @@ pub fn split(
         });
     }
     split_column(list, named, c, size, table, levels, scratch);
-    Answer::Filled { runs, columns }
+    let spare = size.spare + table_spare(list, named);
+    Answer::Filled {
+        runs,
+        columns,
+        spare,
+    }
 }

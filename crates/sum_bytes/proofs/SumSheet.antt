@@ -8,6 +8,7 @@ use Prim.Native.Nat.{ℕ, _+_, _*_, _%_, _≤_, _<_}
 use native.Mathlib.Nat.{le-trans, zero-add}
 use native.Mathlib.Omega.{arith}
 use lib.Dec.{leb}
+use lib.IntN.{ℤ}
 use lib.ListN.{length, getD, take, drop, replicate, length-append, length-replicate}
 use lib.Seq.{length-take-le}
 use Rattle.finite.specs.Lists.{from, AllBelow}
@@ -16,6 +17,7 @@ use Rattle.buffers.specs.Put.{Put}
 use Rattle.buffers.proofs.Puts.{put-length}
 use Rattle.counting.specs.Table.{Table, columns, tableOf}
 use Rattle.step_tables.specs.Sheet.{LevelsAtMost, SmallEnough, smallEnough}
+use Rattle.spare.specs.Spare.{spareOf}
 use Rattle.sheets.specs.Steps.{filled, refused, sized}
 use Rattle.sheets.specs.declared.answer.Refusal.the-variants.{TooLarge}
 use Rattle.sheets.specs.declared.answer.Answer.{Answer}
@@ -27,7 +29,7 @@ use Rattle.layout.specs.Step.{Ready, Left}
 use Rattle.sum_bytes.specs.Summing.{EntriesStand, summedLevels, summedCells, summedRun, RowStands, SheetStands, builtRun, builtSheet}
 use Rattle.layout.specs.declared.Size.{Size}
 use Rattle.layout.proofs.Bytes.{flatMap-same, runs-length}
-use Rattle.layout.proofs.Sheets.{cells-few, built-after, ready-few, ready-used}
+use Rattle.layout.proofs.Sheets.{cells-few, built-after, ready-few, ready-used, held-answer}
 use Rattle.sum_bytes.proofs.Serving.{true-is, false-is}
 use Rattle.sum_bytes.proofs.Sums.{row-below, row-stands, row-length, cells-length, built-length}
 
@@ -106,11 +108,12 @@ module _ {list entries widths : List ℕ} {rows : ℕ} (K : Table) {size : Size}
 -- ---- question 8
 
 module _ (n : ℕ) (S : Table) (table levels : List ℕ) {runs many : ℕ} (e : runs ≡ S .runs) (f : many ≡ columns S) where
-  pub left-small : runs ≤ 512 → many ≤ 128 → {table′ levels′ : List ℕ} → Holds S table′ levels′ → Left (sized n S) table levels (Filled runs many) table′ levels′
+  pub left-small : runs ≤ 512 → many ≤ 128 → {table′ levels′ : List ℕ} {spared : ℤ} → Holds S table′ levels′ → spared ≡ spareOf runs (take many levels′)
+      → Left (sized n S) table levels (Filled runs many spared) table′ levels′
   unfolding sized Left
-  left-small h k holds =
+  left-small h k holds worked-out =
       let small : SmallEnough S = record { runs-most = rw (← e) h; columns-most = rw (← f) k } in
-      rw (← true-is (smallEnough S) (size-decides S .1 small)) (ap₂ Filled e f, holds)
+      rw (← true-is (smallEnough S) (size-decides S .1 small)) (held-answer holds e f worked-out, holds)
 
   pub left-large : (512 < runs) ⊎ (128 < many) → Left (sized n S) table levels (Refused (TooLarge n runs many)) table levels
   unfolding sized Left
@@ -136,7 +139,7 @@ module _ (n : ℕ) (A B : Table) (same-size : A .runs ≡ B .runs) (same-levels 
       → Left (cond b (filled B) (refused (TooLarge n (B .runs) (columns B)))) table levels answer table′ levels′
   unfolding Left
   left-branch true left = (
-    left .0 ∙ ap₂ Filled same-size same-columns,
+    left .0 ∙ ap₂ (λ (x : ℕ) (ls : List ℕ). Filled x (length ls) (spareOf x ls)) same-size same-levels,
     record {
       runs-first = left .1 .runs-first ∙ ap (padded (length table′)) same-runs;
       levels-first = left .1 .levels-first ∙ ap (padded (length levels′)) same-levels;

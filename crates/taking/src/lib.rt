@@ -7,6 +7,7 @@ use ingredients::named::NamedTable;
 use ingredients::named::table_named;
 use sheets::answer::Answer;
 use sheets::answer::Refusal;
+use spare::spare_of;
 use table_putting::put_level_counts;
 use table_putting::put_runs;
 use table_reading::column_count;
@@ -26,8 +27,11 @@ pub fn take(list: &[u16], at: usize, table: &mut [u8], levels: &mut [u8]) -> Ans
     }
     put_runs(list, named, table);
     put_level_counts(list, named, levels, 0);
+    let runs = run_count(list, named);
+    let columns = column_count(list, named);
     Answer::Filled {
-        runs: run_count(list, named),
-        columns: column_count(list, named),
+        runs,
+        columns,
+        spare: spare_of(runs, columns, levels),
     }
 }

@@ -456,7 +456,7 @@ pub fn right_order(random: &mut Random) -> Draft {
     let mut draft = Draft::default();
     if random.percent(20) {
         // An ingredient that no step will name.
-        let unused = spare_ingredient(random);
+        let unused = unused_ingredient(random);
         draft.add(unused);
     }
     let merge_p = if random.percent(55) {
@@ -482,7 +482,7 @@ pub fn right_order(random: &mut Random) -> Draft {
 }
 
 /// Any small passing ingredient.
-pub fn spare_ingredient(random: &mut Random) -> Numbers {
+pub fn unused_ingredient(random: &mut Random) -> Numbers {
     match random.below(4) {
         0 => {
             let runs = random.between(2, 12);

@@ -1,5 +1,5 @@
-//! The examples of 01, each refusal, and orders at both sides of each limit. The orders alone are
-//! written here; `plan_text` gives the answers.
+//! The examples of 01, each refusal, orders at both sides of each limit, and the spare after each
+//! kind of step. The orders alone are written here; `plan_text` gives the answers.
 
 mod short;
 
@@ -23,6 +23,8 @@ pub fn examples() -> String {
     put(&mut records, "refusals", REFUSALS);
     put(&mut records, "limits", &both_sides());
     put(&mut records, "five kinds", FIVE_KINDS);
+    put(&mut records, "spare", SPARE);
+    put(&mut records, "spare", &sixteen_steps());
     put(&mut records, "words", WORDS);
     records.text
 }
@@ -150,6 +152,37 @@ fn columns_by_split(k: usize, column_and_table: &str) -> String {
 fn steps(count: usize) -> String {
     let splits = times("5 1 1", count - 1);
     format!("1 1 2 1 2 1 0 {count} 1 101 {splits}")
+}
+
+/// As many steps as an order may have, for a spare that is kept from step to step.
+fn sixteen_steps() -> Vec<(&'static str, String)> {
+    vec![
+        ("16 steps, spare 4 after each", constant_spare()),
+        ("16 steps, spare 0 to 8 by five of them", rising_spare()),
+    ]
+}
+
+/// TAKE of 101 with each run twice; MERGE of its columns and SPLIT by 101 in turn.
+fn constant_spare() -> String {
+    let table = format!("1 8 3 2 2 2 {}", times("0 0 0 0 1 1 1 0 1 1 1 0", 2));
+    let merge = "4 2 1 2 3";
+    let both = times(&format!("{merge} 5 1 101"), 7);
+    format!("1 {table} 16 1 1 {both} {merge}")
+}
+
+/// FIELD to five columns with 4 levels. Each of them has SPLIT by 101, MERGE of the three columns
+/// to one again, and SPLIT by table 2, of one column, or by table 3, of two. Those have the spares
+/// 2 and 1.
+fn rising_spare() -> String {
+    let generator = "3 2 5 4 1 1 1 1 1 1 0 1 1 1 0 1 1 2 3";
+    let tables = "1 4 1 2 0 0 1 1 1 4 2 2 2 0 0 0 1 1 0 1 1";
+    let mut steps = "2 1".to_string();
+    let mut c = 1;
+    for (table, columns) in [(2, 1), (3, 2), (2, 1), (3, 2), (2, 1)] {
+        steps += &format!(" 5 {c} 101 4 2 {c} {} {} 5 {c} {table}", c + 1, c + 2);
+        c += columns;
+    }
+    format!("3 {generator} {tables} 16 {steps}")
 }
 
 /// Tables of two runs, and TAKE of the 32nd.

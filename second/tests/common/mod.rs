@@ -2,6 +2,7 @@
 
 #![allow(dead_code)]
 
+use second::order::{read, Step};
 use second::{plan, Answer};
 
 /// The numbers of a text.
@@ -34,7 +35,21 @@ pub fn filled(levels: &[u8], runs: &str) -> Answer {
     Answer::Filled {
         runs: words.len(),
         levels: levels.to_vec(),
+        spare: words.len() as i64 - 1 - held(levels),
         table,
+    }
+}
+
+/// The sum over columns of (levels - 1): what 02's K1 takes from the runs.
+pub fn held<Level: Copy + Into<i64>>(levels: &[Level]) -> i64 {
+    levels.iter().map(|&level| level.into() - 1).sum()
+}
+
+/// The spare of a filled answer.
+pub fn spare(answer: &Answer) -> i64 {
+    match answer {
+        Answer::Filled { spare, .. } => *spare,
+        refusal => panic!("{refusal:?}"),
     }
 }
 
@@ -54,6 +69,7 @@ pub fn assert_even(answer: &Answer) {
         runs,
         levels,
         table,
+        ..
     } = answer
     else {
         return;
@@ -119,6 +135,32 @@ pub fn points(t: u16, n: u16) -> Vec<u16> {
         list.extend((1..=n).map(|point| point >> coordinate & 1));
     }
     list
+}
+
+/// The answers to the beginnings of an order: its ingredients with the first step, the first two, and
+/// so on to all of them.
+pub fn answers_by_step(list: &[u16]) -> Vec<Answer> {
+    let lengths: Vec<usize> = read(list).unwrap().steps.iter().map(step_length).collect();
+    let start = list.len() - lengths.iter().sum::<usize>();
+    let mut end = start;
+    let mut answers = Vec::new();
+    for (index, length) in lengths.iter().enumerate() {
+        end += length;
+        let count = [index as u16 + 1];
+        let beginning = [&list[..start - 1], &count, &list[start..end]].concat();
+        answers.push(planned(&beginning));
+    }
+    answers
+}
+
+/// How many numbers of a list are a step's.
+fn step_length(step: &Step) -> usize {
+    match step {
+        Step::Take { .. } | Step::Field { .. } => 2,
+        Step::Sum { matrices, .. } => 3 + matrices.len(),
+        Step::Merge { members, .. } => 2 + members.len(),
+        Step::Split { .. } => 3,
+    }
 }
 
 /// The list of an order.

@@ -1,5 +1,8 @@
 -- `carrying::carry_or_clear` meets its contract: what the steps leave, and zeros where one refuses.
 use borrow.Author.Needs.{needs}
+use mir.Facts.{toZ-ofZ}
+use mir.Syntax.{w64}
+use mir.Val.{SFits}
 use Rattle.promise.proofs.Promises.{settled-filled, settled-refused}
 use Rattle.carrying.proofs.carry_or_clear.Statement.{statement}
 use Rattle.carrying.proofs.carry_or_clear.Tie as tie
@@ -31,7 +34,9 @@ same-length-3 c = search needs
 returns : tie.Need-returns
 returns c =
     let done = c .before .before .before .before .before .before .before .before .before in
-    (settled-filled _ _ _ _ _ (c .before .runs .given .1) (done .carry-out .ensures .0), done .carry-out .ensures .1)
+    let filled = c .before .runs .given in
+    let word : SFits w64 (filled .0 .1 .1 .0) = search needs in
+    (settled-filled _ _ _ _ _ (filled .1) (toZ-ofZ word) (done .carry-out .ensures .0), done .carry-out .ensures .1)
 
 same-length-4 : tie.Need-same-length-4
 same-length-4 c = search needs

@@ -4,7 +4,10 @@ use mathlib.Core.Path.{_≡_, _∙_}
 use mathlib.Core.List.{List}
 use Prim.Native.Nat.{ℕ, _+_, _-_, _≤_}
 use native.Mathlib.Omega.{arith}
-use borrow.Author.Needs.{needs}
+use borrow.Author.Needs.{needs, sfits-of}
+use mir.Facts.{toZ-ofZ}
+use mir.Syntax.{w64}
+use mir.Val.{SFits}
 use lib.ListN.{length}
 use Rattle.order.specs.Grammar.{readOrder}
 use Rattle.places.specs.Places.{stepCount}
@@ -79,8 +82,10 @@ loop-again : tie.Need-loop-again Inv-loop μ-loop
 loop-again c =
     let done = c .before .before .before .before .before .before .before .before .before in
     let kept = done .proceed .kept .1 .1 .1 in
-    let inv = done .before .before .before .before .before .loop .inv in (
-      step-filled (inv .0) (more-left (inv .0) (inv .1) (omega (arith, done .before .before .before .before .loop-test .taken))) _ _ _ _ _ (c .before .runs .given .1) (done .proceed .ensures .0) (kept .0) (kept .1 .0) (kept .1 .1 .0) (done .proceed .ensures .1),
+    let inv = done .before .before .before .before .before .loop .inv in
+    let filled = c .before .runs .given in
+    let word : SFits w64 (filled .0 .1 .1 .0) = search needs in (
+      step-filled (inv .0) (more-left (inv .0) (inv .1) (omega (arith, done .before .before .before .before .loop-test .taken))) _ _ _ _ _ _ (filled .1) (done .proceed .ensures .0) (kept .0) (kept .1 .0) (kept .1 .1 .0) (done .proceed .ensures .1) (toZ-ofZ word),
       inv .1,
       kept .0 ∙ inv .2,
       kept .1 .0 ∙ inv .3,
@@ -97,9 +102,10 @@ same-length-6 : tie.Need-same-length-6 Inv-loop μ-loop
 same-length-6 c = search needs
 
 returns-2 : tie.Need-returns-2 Inv-loop μ-loop
-returns-2 c =
+returns-2 told =
+    let c = told .before in
     let inv = c .before .loop .inv in
-    (none-left (inv .0) (omega (arith, inv .1, steps-counted (inv .0 .passing .readable), c .loop-test .left)) _ _, inv .0 .clear)
+    (none-left (inv .0) (omega (arith, inv .1, steps-counted (inv .0 .passing .readable), c .loop-test .left)) _ _ (toZ-ofZ {w = w64} (sfits-of (told .struct-told .given .1 .1 .0 .1))), inv .0 .clear)
 
 pub carry-out-spec : {M : Type 1} → statement M
 carry-out-spec =

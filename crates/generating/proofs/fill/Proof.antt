@@ -1,14 +1,17 @@
 -- `fill` meets its contract: the level counts and the runs are put at the front of zeros.
 -- Assumes nothing.
-use mathlib.Core.Path.{sym, _∙_, ap₂}
+use mathlib.Core.Path.{sym, _∙_}
 use native.Mathlib.Nat.{le-trans}
 use lib.Dec.{lit≤}
-use borrow.Author.Needs.{needs}
+use borrow.Author.Needs.{needs, sfits-of}
+use mir.Facts.{toZ-ofZ}
+use mir.Syntax.{w64}
 use Rattle.galois.proofs.Fields.{size-positive}
-use Rattle.sheets.specs.declared.answer.Answer.the-variants.{Filled}
 use Rattle.layout.specs.Step.{Left}
 use Rattle.layout.proofs.Rows.{put-holds}
+use Rattle.layout.proofs.Sheets.{held-limits, held-answer}
 use Rattle.generating.proofs.FieldSheet.{sheet-runs, sheet-columns}
+use Rattle.generating.proofs.FieldNamed.{generator-small}
 use Rattle.generating.proofs.fill.Statement.{statement}
 use Rattle.generating.proofs.fill.Tie as tie
 
@@ -59,6 +62,14 @@ put-runs-requires c κs =
       ),
     )
 
+spare-of-requires : tie.Need-spare-of-requires
+spare-of-requires c κs =
+    let pre = c .before .before .before .before .before .before .before .before .before .before .before .before .before .before .before .before .before .before .before .pre in
+    held-limits (put-holds _ (pre .1 .0 .1) (pre .1 .1 .1) (c .before .before .before .put-runs .ensures) (c .before .before .before .before .before .before .before .before .before .before .before .before .put-levels .ensures))
+    (c .before .before .before .before .before .before .before .before .before .before .before .before .before .before .power .ensures ∙ sym (sheet-runs (pre .0)))
+    (sym (sheet-columns (pre .0)))
+    (generator-small (pre .0))
+
 same-length : tie.Need-same-length
 same-length c = search needs
 
@@ -68,12 +79,10 @@ same-length-2 c = search needs
 returns : tie.Need-returns
 unfolding Left
 returns c =
-    let pre = c .before .before .before .before .before .before .before .before .before .before .before .before .before .before .before .before .before .before .pre in
-    let runs = c .before .before .before .before .before .before .before .before .before .before .before .before .before .power .ensures in (
-      ap₂ Filled (runs ∙ sym (sheet-runs (pre .0))) (sym (sheet-columns (pre .0))),
-      put-holds _ (pre .1 .0 .1) (pre .1 .1 .1) (c .before .before .put-runs .ensures)
-          (c .before .before .before .before .before .before .before .before .before .before .before .put-levels .ensures),
-    )
+    let pre = c .before .before .before .before .before .before .before .before .before .before .before .before .before .before .before .before .before .before .before .before .pre in
+    let runs = c .before .before .before .before .before .before .before .before .before .before .before .before .before .before .before .power .ensures in
+    let holds = put-holds _ (pre .1 .0 .1) (pre .1 .1 .1) (c .before .before .before .before .put-runs .ensures) (c .before .before .before .before .before .before .before .before .before .before .before .before .before .put-levels .ensures) in
+    (held-answer holds (runs ∙ sym (sheet-runs (pre .0))) (sym (sheet-columns (pre .0))) (toZ-ofZ {w = w64} (sfits-of (c .spare-of .ok)) ∙ c .spare-of .ensures), holds)
 
 pub fill-spec : {M : Type 1} → statement M
 fill-spec =
@@ -88,6 +97,7 @@ fill-spec =
     power-requires-2
     slice-aggregate-put-runs
     put-runs-requires
+    spare-of-requires
     same-length
     same-length-2
     returns)

@@ -1,7 +1,9 @@
 -- `merge_sheet` meets its contract: the runs and the level counts that are put are those of the sheet that the definition leaves.
 use mathlib.Core.Path.{sym}
 use native.Mathlib.Omega.{arith}
-use borrow.Author.Needs.{needs}
+use borrow.Author.Needs.{needs, sfits-of}
+use mir.Facts.{toZ-ofZ}
+use mir.Syntax.{w64}
 use Rattle.buffers.proofs.Puts.{put-part}
 use Rattle.layout.proofs.Sheets.{cells-few, ready-few, ready-runs, ready-used, ready-after, ready-levels-after}
 use Rattle.merged_sheet.proofs.Settled.{square-most, counted-length, counted-most, stops-counted, runs-room, scratch-asked, room-asked, settled}
@@ -77,12 +79,13 @@ same-length-3 : tie.Need-same-length-3
 same-length-3 c = search needs
 
 returns : tie.Need-returns
-returns c =
+returns told =
+    let c = told .before in
     let m = c .before .before .before .before .before .before .before .before .before .before .before .before .before .before .before .before .before .before .before .before .before .before .before .before .before .before .before .before .before .before .before .pre in
     let runs-put = c .before .before .before .before .before .before .before .before .before .before .before .before .before .before .before .before .before .before .merge-runs .ensures in
     let counts-put = c .before .before .before .before .before .before .before .before .before .before .before .before .merge-row .ensures in
     let called = c .before .before .before .before .before .before .settle in
-    (settled m runs-put counts-put (called .kept .1 .1 .1 .1 .0) (called .kept .1 .1 .1 .1 .1 .0) (called .ensures .0) (called .ensures .1 .0), called .ensures .1 .1)
+    (settled m runs-put counts-put (called .kept .1 .1 .1 .1 .0) (called .kept .1 .1 .1 .1 .1 .0) (called .ensures .0) (called .ensures .1 .0) (toZ-ofZ {w = w64} (sfits-of (told .struct-told .given .1 .1 .0 .1))), called .ensures .1 .1)
 
 pub merge-sheet-spec : {M : Type 1} → statement M
 merge-sheet-spec =

@@ -1,5 +1,8 @@
 -- `report::put_answer` meets its contract: a table, or the one line of a refusal.
 use borrow.Author.Needs.{needs}
+use mir.Facts.{toZ-ofZ}
+use mir.Syntax.{w64}
+use mir.Val.{SFits}
 use Rattle.report.specs.Report.{answerPrinted, Printable}
 use Rattle.report.proofs.put_answer.Statement.{statement}
 use Rattle.report.proofs.put_answer.Tie as tie
@@ -24,7 +27,10 @@ same-length c = search needs
 
 returns : tie.Need-returns
 unfolding answerPrinted
-returns c = rw (c .before .before .before .before .before .answer .given .1) (c .before .before .put-table .ensures)
+returns c =
+    let filled = c .before .before .before .before .before .answer .given in
+    let word : SFits w64 (filled .0 .1 .1 .0) = search needs in
+    rw (filled .1, ← toZ-ofZ word) (c .before .before .put-table .ensures)
 
 same-length-2 : tie.Need-same-length-2
 same-length-2 c = search needs

@@ -1,15 +1,20 @@
 -- `splitting::split` meets its contract: each question's No is the definition's, and the Yes of all is the next sheet.
-use mathlib.Core.Path.{_≡_, refl, sym, _∙_}
+use mathlib.Core.Path.{_≡_, refl, sym, _∙_, ap}
 use mathlib.Core.Bool.{Bool, true}
 use Prim.Native.Nat.{_+_, _-_}
 use native.Mathlib.Omega.{arith}
-use borrow.Author.Needs.{needs}
+use borrow.Author.Needs.{needs, sfits-of}
 use borrow.Author.Tests.{not-true, not-false}
 use lib.ListN.{getD}
 use lib.Seq.{length-take-le}
+use lib.IntN.{_+ℤ_}
+use mir.Facts.{toZ-ofZ}
+use mir.Syntax.{w64}
+use mir.Val.{SFits, ofZ, toZ}
 use Rattle.counting.specs.Table.{tableOf}
 use Rattle.step_tables.specs.Split.{SplitFits, splitFits}
 use Rattle.step_tables.proofs.StepQuestions.{split-decides}
+use Rattle.spare.specs.Spare.{spare}
 use Rattle.ingredients.specs.Named.{tableIn}
 use Rattle.ingredients.specs.declared.named.NamedTable.{NamedTable}
 use Rattle.layout.specs.Bytes.{sheetIn}
@@ -17,8 +22,8 @@ use Rattle.layout.specs.Step.{Left}
 use Rattle.layout.proofs.Operands.{some-named}
 use Rattle.layout.proofs.Sheets.{ready-few}
 use Rattle.split_sheet.proofs.Sheet.{on-sheet, next-columns}
-use Rattle.splitting.proofs.Answers.{filled-answer, large-answer, next-small}
-use Rattle.splitting.proofs.Outcome.{operands-within, column-from-one, legible, small, none-named, unfit, over-large, fills}
+use Rattle.splitting.proofs.Answers.{filled-answer, large-answer, next-small, spare-room}
+use Rattle.splitting.proofs.Outcome.{operands-within, column-from-one, legible, small, few-levels, none-named, unfit, over-large, fills}
 use Rattle.splitting.proofs.split.Statement.{statement}
 use Rattle.splitting.proofs.split.Tie as tie
 
@@ -131,6 +136,37 @@ split-column-requires c κs =
     let fits = parts (c .before .before .before .before .before) in
     (ready, (legible (ready .readable) (start .pre .0) _ (c .before .before .before .before .before .before .before .before .before .before .table-named .ensures), (fits, next-small ready _ _ fits (rw (c .before .before .before .before .column-count .ensures) at (c .before .before .before .if2 .left)))))
 
+table-spare-requires : tie.Need-table-spare-requires
+table-spare-requires c κs =
+    let start = c .before .before .before .before .before .before .before .before .before .before .before .before .before .before .before .before .before .before .before .before .before .before .before in
+    let found = c .before .before .before .before .before .before .before .before .before .before .before .before .before .before .before .before .before .table-named .ensures in
+    (legible (start .pre .1 .readable) (start .pre .0) _ found, small (start .pre .1 .readable) (start .pre .0) _ found)
+
+-- the spare degrees of the sheet in hand and of the table: as they are read back, and that their sum has room
+abbrev start-of : tie.After-struct-told → tie.Start
+start-of told = told .before .before .before .before .before .before .before .before .before .before .before .before .before .before .before .before .before .before .before .before .before .before .before .before .before .before
+
+sheet-back : (told : tie.After-struct-told) → toZ w64 (ofZ w64 (start-of told .args .size .spare)) ≡ start-of told .args .size .spare
+sheet-back told = toZ-ofZ {w = w64} (sfits-of (told .struct-told .given .1 .1 .0 .1))
+
+table-back : (told : tie.After-struct-told) → toZ w64 (ofZ w64 (told .before .before .table-spare .result)) ≡ told .before .before .table-spare .result
+table-back told = toZ-ofZ {w = w64} (sfits-of (told .before .before .table-spare .ok))
+
+room : (told : tie.After-struct-told) → SFits w64 (start-of told .args .size .spare +ℤ told .before .before .table-spare .result)
+room told =
+    let start = start-of told in
+    let found = told .before .before .before .before .before .before .before .before .before .before .before .before .before .before .before .before .before .before .before .before .table-named .ensures in
+    spare-room (start .pre .1) (small (start .pre .1 .readable) (start .pre .0) _ found) (few-levels (start .pre .1 .readable) (start .pre .0) _ found) (told .before .before .table-spare .ensures)
+
+-- the sum as it is read back
+added : (told : tie.After-struct-told)
+    → toZ w64 (ofZ w64 (toZ w64 (ofZ w64 (start-of told .args .size .spare)) +ℤ toZ w64 (ofZ w64 (told .before .before .table-spare .result))))
+    ≡ start-of told .args .size .spare +ℤ spare (tableIn (start-of told .args .list .now) (told .before .before .before .before .before .before .before .before .before .before .before .before .before .before .before .before .before .before .before .before .table-named .result))
+added told = rw (sheet-back told, table-back told) (toZ-ofZ (room told) ∙ ap (λ x. start-of told .args .size .spare +ℤ x) (told .before .before .table-spare .ensures))
+
+add-spare : tie.Need-add-spare
+add-spare told = rw (sheet-back told, table-back told) (room told)
+
 same-length-3 : tie.Need-same-length-3
 same-length-3 c = search needs
 
@@ -142,12 +178,13 @@ same-length-5 c = search needs
 
 returns-4 : tie.Need-returns-4
 unfolding Left
-returns-4 c =
+returns-4 told =
+    let c = told .before .before .before in
     let start = c .before .before .before .before .before .before .before .before .before .before .before .before .before .before .before .before .before .before .before .before .before .before .before in
     let ready = start .pre .1 in
     let fits = parts (c .before .before .before .before .before .before .before .before .before .before .before .before) in
     rw (fills (ready .readable) (start .pre .0) _ (c .before .before .before .before .before .before .before .before .before .before .before .before .before .before .before .before .before .table-named .ensures) _ _ (some-named _ _ (c .before .before .before .before .before .before .before .before .before .before .before .before .before .before .before .before .match .keys2)) (fit (c .before .before .before .before .before .before .before .before .before .before .before .before)) (next-small ready _ _ fits (rw (c .before .before .before .before .before .before .before .before .before .before .before .column-count .ensures) at (c .before .before .before .before .before .before .before .before .before .before .if2 .left))))
-    ((filled-answer ready _ _ fits (c .before .before .before .before .before .before .before .before .before .before .before .column-count .ensures), c .before .before .before .before .before .before .split-column .ensures .0), c .before .before .before .before .before .before .split-column .ensures .1)
+    ((filled-answer ready _ _ fits (c .before .before .before .before .before .before .before .before .before .before .before .column-count .ensures) (added told), c .before .before .before .before .before .before .split-column .ensures .0), c .before .before .before .before .before .before .split-column .ensures .1)
 
 pub split-spec : {M : Type 1} → statement M
 split-spec =
@@ -175,6 +212,8 @@ split-spec =
     same-length-2
     returns-3
     split-column-requires
+    table-spare-requires
+    add-spare
     same-length-3
     same-length-4
     same-length-5

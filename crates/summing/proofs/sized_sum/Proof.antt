@@ -1,17 +1,20 @@
 -- `summing::sized_sum` meets its contract: question 8 asks for the sizes of the sheet that `build` then builds.
-use mathlib.Core.Path.{_≡_, refl, sym}
+use mathlib.Core.Path.{_≡_, refl, sym, _∙_}
 use mathlib.Core.Logic.{inl, inr, ⊎-elim}
 use Prim.Native.Nat.{_+_, _*_}
 use native.Mathlib.Nat.{mul-le-mul}
 use native.Mathlib.Omega.{arith}
 use borrow.Author.Tests.{ltb-true, ltb-false}
-use borrow.Author.Needs.{needs}
+use borrow.Author.Needs.{needs, sfits-of}
 use lib.ListN.{take}
 use lib.Seq.{length-take-le}
+use mir.Facts.{toZ-ofZ}
+use mir.Syntax.{w64}
 use Rattle.counting.specs.Table.{Table, columns as columnsOf}
+use Rattle.step_tables.specs.Sheet.{SmallEnough}
 use Rattle.ingredients.specs.Named.{tableIn}
 use Rattle.sum_bytes.specs.Summing.{builtSheet, nextSheet}
-use Rattle.layout.proofs.Sheets.{ready-few, ready-runs}
+use Rattle.layout.proofs.Sheets.{ready-few, ready-runs, held-limits}
 use Rattle.sum_bytes.proofs.SumSheet.{sheet-stands, left-small, left-large, built-columns}
 use Rattle.summing.proofs.sized_sum.Statement.{statement}
 use Rattle.summing.proofs.sized_sum.Tie as tie
@@ -73,23 +76,21 @@ returns c =
       start .pre .0 .scratch-clear,
     )
 
-build-requires : tie.Need-build-requires
+small : (c : tie.Else2) → SmallEnough (next-of (start-of (c .before .before)))
 unfolding builtSheet
+small c = record { runs-most = c .before .if1 .left; columns-most = rw (← many (c .before .before)) (ltb-false _ _ (c .if2 .left)) }
+
+build-requires : tie.Need-build-requires
 build-requires c κs =
-    let counted = c .before .before .before .before .before in
-    let start = start-of counted in (
-      start .pre .0,
-      (
-        start .pre .1 .0 .0,
-        (
-          (start .pre .1 .1 .0, start .pre .1 .1 .1),
-          record {
-            runs-most = c .before .before .before .before .if1 .left;
-            columns-most = rw (← many counted) (ltb-false _ _ (c .before .before .before .if2 .left));
-          },
-        ),
-      ),
-    )
+    let asked = c .before .before .before in
+    let start = start-of (asked .before .before) in
+    (start .pre .0, (start .pre .1 .0 .0, ((start .pre .1 .1 .0, start .pre .1 .1 .1), small asked)))
+
+spare-of-requires : tie.Need-spare-of-requires
+spare-of-requires c κs =
+    let built = c .before .before .before .before .before .before .before in
+    let asked = built .before .before .before .before in
+    held-limits (built .build .ensures .0) (runs-known (start-of (asked .before .before))) (many (asked .before .before)) (small asked)
 
 same-length-2 : tie.Need-same-length-2
 same-length-2 c = search needs
@@ -102,11 +103,12 @@ same-length-4 c = search needs
 
 returns-2 : tie.Need-returns-2
 returns-2 c =
-    let counted = c .before .before .before .before .before .before .before .before .before .before .before .before in
-    let start = start-of counted in
-    let built = c .before .before .before .before .before .before .build in (
-      left-small (start .args .number) (next-of start) _ _ (runs-known start) (many counted) (c .before .before .before .before .before .before .before .before .before .before .before .if1 .left) (ltb-false _ _ (c .before .before .before .before .before .before .before .before .before .before .if2 .left)) (built .ensures .0),
-      built .ensures .1,
+    let built = c .before .before .before .before .before .before .before .before in
+    let asked = built .before .before .before .before in
+    let counted = asked .before .before in
+    let start = start-of counted in (
+      left-small (start .args .number) (next-of start) _ _ (runs-known start) (many counted) (asked .before .if1 .left) (ltb-false _ _ (asked .if2 .left)) (built .build .ensures .0) (toZ-ofZ {w = w64} (sfits-of (c .spare-of .ok)) ∙ c .spare-of .ensures),
+      built .build .ensures .1,
     )
 
 pub sized-sum-spec : {M : Type 1} → statement M
@@ -122,6 +124,7 @@ sized-sum-spec =
     same-length
     returns
     build-requires
+    spare-of-requires
     same-length-2
     same-length-3
     same-length-4

@@ -1,12 +1,14 @@
 -- `taking::take` meets its contract: the buffers are clear, and the table that the number names is put into them.
-use mathlib.Core.Path.{refl, ap₂}
+use mathlib.Core.Path.{refl, _∙_}
 use native.Mathlib.Nat.{le-trans}
 use native.Mathlib.Omega.{arith}
-use borrow.Author.Needs.{needs}
-use Rattle.sheets.specs.declared.answer.Answer.the-variants.{Filled}
+use borrow.Author.Needs.{needs, sfits-of}
+use mir.Facts.{toZ-ofZ}
+use mir.Syntax.{w64}
 use Rattle.layout.specs.Step.{Left}
 use Rattle.layout.proofs.Operands.{some-named}
 use Rattle.layout.proofs.Rows.{put-holds}
+use Rattle.layout.proofs.Sheets.{held-limits, held-answer}
 use Rattle.taking.proofs.Taken.{number-within, legible, small, cells-most, none-taken, one-taken}
 use Rattle.taking.proofs.take.Statement.{statement}
 use Rattle.taking.proofs.take.Tie as tie
@@ -52,6 +54,15 @@ run-count-requires c κs =
 column-count-requires : tie.Need-column-count-requires
 column-count-requires c κs = run-count-requires (c .before) κs
 
+spare-of-requires : tie.Need-spare-of-requires
+spare-of-requires c κs =
+    let start = c .before .before .before .before .before .before .before .before .before .before .before .before .before .before .before .before .before in
+    let found = c .before .before .before .before .before .before .before .before .before .before .before .before .table-named .ensures in
+    held-limits (put-holds _ (start .pre .1 .1 .0 .1) (start .pre .1 .1 .1 .1) (c .before .before .before .before .before .before .before .before .before .put-runs .ensures) (c .before .before .before .before .before .put-level-counts .ensures))
+    (c .before .before .run-count .ensures)
+    (c .before .column-count .ensures)
+    (small (start .pre .1 .0) (start .pre .0) _ found)
+
 same-length : tie.Need-same-length
 same-length c = search needs
 
@@ -61,10 +72,11 @@ same-length-2 c = search needs
 returns-2 : tie.Need-returns-2
 unfolding Left
 returns-2 c =
-    let start = c .before .before .before .before .before .before .before .before .before .before .before .before .before .before .before .before in
-    let choice = c .before .before .before .before .before .before .before .before .before .before in
+    let start = c .before .before .before .before .before .before .before .before .before .before .before .before .before .before .before .before .before .before in
+    let choice = c .before .before .before .before .before .before .before .before .before .before .before .before in
+    let holds = put-holds _ (start .pre .1 .1 .0 .1) (start .pre .1 .1 .1 .1) (c .before .before .before .before .before .before .before .before .before .before .put-runs .ensures) (c .before .before .before .before .before .before .put-level-counts .ensures) in
     rw (one-taken (start .pre .1 .0) (start .pre .0) _ (choice .before .table-named .ensures) (some-named _ _ (choice .match .keys2)))
-    (ap₂ Filled (c .before .run-count .ensures) (c .column-count .ensures), put-holds _ (start .pre .1 .1 .0 .1) (start .pre .1 .1 .1 .1) (c .before .before .before .before .before .before .before .before .put-runs .ensures) (c .before .before .before .before .put-level-counts .ensures))
+    (held-answer holds (c .before .before .before .run-count .ensures) (c .before .before .column-count .ensures) (toZ-ofZ {w = w64} (sfits-of (c .spare-of .ok)) ∙ c .spare-of .ensures), holds)
 
 pub take-spec : {M : Type 1} → statement M
 take-spec =
@@ -80,6 +92,7 @@ take-spec =
     put-level-counts-requires
     run-count-requires
     column-count-requires
+    spare-of-requires
     same-length
     same-length-2
     returns-2)

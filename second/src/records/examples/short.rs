@@ -203,6 +203,57 @@ pub const FIVE_KINDS: &[(&str, &str)] = &[
     ),
 ];
 
+/// The spare after each kind of step; 02, K1.
+pub const SPARE: &[(&str, &str)] = &[
+    ("TAKE of 102, which is saturated", "0 1 1 102"),
+    ("TAKE of 103, spare 5", "0 1 1 103"),
+    ("FIELD of one factor, spare 2", "1 3 2 1 2 1 1 0 1 2 1"),
+    // 4 runs of one column, spare 2, and a matrix of 2 rows and 2 columns.
+    (
+        "SUM without k, spare 2 to 5",
+        "2 1 4 1 2 0 0 1 1 2 2 2 2 0 0 0 1 2 1 1 3 1 2 0",
+    ),
+    (
+        "SUM with a k of one column, spare 2 to 4",
+        "3 1 4 1 2 0 0 1 1 2 2 2 2 0 0 0 1 1 2 1 2 0 1 2 1 1 3 1 2 3",
+    ),
+    // 6 runs of 2 and 3 levels, and for each level count a matrix of 2 rows and one column.
+    (
+        "SUM on two level counts, spare 2 to 8",
+        "3 1 6 2 2 3 0 0 0 1 0 2 1 0 1 1 1 2 2 2 1 2 0 1 2 2 1 3 0 1 2 1 1 3 2 2 3 0",
+    ),
+    // Generators whose factors are zero in their last coordinate, so that each run stands there 2
+    // or 3 times.
+    (
+        "MERGE with p = 2, spare 4 as before",
+        "1 3 3 3 2 1 1 1 1 0 1 0 1 1 0 0 0 2 2 1 4 2 1 2 3",
+    ),
+    (
+        "MERGE with p = 3, spare 18 as before",
+        "1 3 3 4 3 1 1 1 1 1 0 1 1 0 1 1 2 0 0 0 0 2 2 1 4 3 1 2 3 4",
+    ),
+    (
+        "SPLIT by a table of one column, spare 0 to 2",
+        "2 1 4 1 4 0 1 2 3 1 4 1 2 0 0 1 1 2 1 1 5 1 2",
+    ),
+    (
+        "SPLIT by 101, spare 4 as before",
+        "1 3 3 1 2 2 1 0 0 1 0 0 2 2 1 5 1 101",
+    ),
+    (
+        "SPLIT by 103, spare 0 to 5",
+        "1 1 12 1 12 0 1 2 3 4 5 6 7 8 9 10 11 2 1 1 5 1 103",
+    ),
+    (
+        "SPLIT by 104, spare 0 to 4",
+        "1 1 12 1 12 0 1 2 3 4 5 6 7 8 9 10 11 2 1 1 5 1 104",
+    ),
+    (
+        "FIELD, SUM, MERGE, SPLIT, spare 4, 9, 9, 11",
+        "3 3 3 3 2 1 1 1 1 0 1 0 1 1 0 0 0 2 2 2 2 0 0 0 1 1 4 1 2 0 0 1 1 4 2 1 3 1 2 0 4 2 1 3 5 5 1 3",
+    ),
+];
+
 /// Texts whose words are not all plain numbers.
 pub const WORDS: &[(&str, &str)] = &[
     ("leading zeros, s = 007", "1 3 1 1 007 1 1 1 2 1"),
