@@ -11,7 +11,7 @@ pub mod common_bits;
 mod count;
 mod read;
 
-use crate::planners::{Buffers, Numbers};
+use crate::planners::{refused, Buffers, Numbers, Outcome};
 use count::TableCheck;
 
 /// Why an order is not filled.
@@ -20,22 +20,22 @@ enum Stop {
     NotWritten,
 }
 
-pub fn plan(list: &[u16], buffers: &mut Buffers) -> Option<Numbers> {
+pub fn plan(list: &[u16], buffers: &mut Buffers) -> Option<Outcome> {
     plan_with(count::check_table, list, buffers)
 }
 
-fn plan_with(check_table: TableCheck, list: &[u16], buffers: &mut Buffers) -> Option<Numbers> {
+fn plan_with(check_table: TableCheck, list: &[u16], buffers: &mut Buffers) -> Option<Outcome> {
     match fill(check_table, list, buffers) {
-        Ok(numbers) => Some(numbers),
+        Ok(outcome) => Some(outcome),
         Err(Stop::Refused(numbers)) => {
             buffers.clear();
-            Some(numbers)
+            Some(refused(numbers))
         }
         Err(Stop::NotWritten) => None,
     }
 }
 
-fn fill(check_table: TableCheck, list: &[u16], buffers: &mut Buffers) -> Result<Numbers, Stop> {
+fn fill(check_table: TableCheck, list: &[u16], buffers: &mut Buffers) -> Result<Outcome, Stop> {
     let order = read::order(list)?;
     for ingredient in &order.ingredients {
         ingredient.in_range()?;

@@ -4,7 +4,7 @@
 
 use bench::fast;
 use bench::orders::{cases, least_order, table_order, Case};
-use bench::planners::{plain, proved, Buffers, Numbers};
+use bench::planners::{plain, proved, Buffers, Outcome};
 use bench::timing::{least_times, ratio, time_of, Effort};
 use second::LEAST;
 use std::env;
@@ -15,7 +15,7 @@ use std::path::{Path, PathBuf};
 use std::process::{self, Command, Stdio};
 use std::time::Duration;
 
-type Planner = fn(&[u16], &mut Buffers) -> Numbers;
+type Planner = fn(&[u16], &mut Buffers) -> Outcome;
 
 const CALLS: Effort = Effort {
     rounds: 10,
@@ -66,11 +66,11 @@ fn print_against_rust(case: &Case) {
     print_line(&case.name, &ratios);
 }
 
-fn by_fast(list: &[u16], buffers: &mut Buffers) -> Numbers {
+fn by_fast(list: &[u16], buffers: &mut Buffers) -> Outcome {
     fast::plan(list, buffers).expect("it is written for this order")
 }
 
-fn by_common_bits(list: &[u16], buffers: &mut Buffers) -> Numbers {
+fn by_common_bits(list: &[u16], buffers: &mut Buffers) -> Outcome {
     fast::common_bits::plan(list, buffers).expect("it is written for this order")
 }
 
@@ -95,7 +95,7 @@ fn assert_all_agree(planners: &[Planner], list: &[u16]) {
         let mut buffers = Buffers::zeros(LEAST);
         (planner(list, &mut buffers), buffers)
     });
-    let answers: Vec<(Numbers, Buffers)> = answers.collect();
+    let answers: Vec<(Outcome, Buffers)> = answers.collect();
     assert!(
         answers.windows(2).all(|two| two[0] == two[1]),
         "an answer or a byte differs"

@@ -31,6 +31,7 @@ pub fn cases() -> Vec<Case> {
         Case::of("FIELD to 512 runs and 128 columns", field_order()),
         Case::of("SUM to 512 runs and 128 columns", sum_order()),
         Case::of("sixteen steps on 512 runs", sixteen_steps()),
+        Case::of("sixteen steps on 4 runs", sixteen_small_steps()),
         Case::of("matrix of 252 rows and 128 columns", matrix_order()),
         Case::of("refused: the last number", last_number_refused()),
         Case::of("refused: the last entry", last_entry_refused()),
@@ -69,12 +70,24 @@ fn parts_of_sum() -> [Vec<u16>; 2] {
 /// 9 and 17 are those of parities 1, 2 and 3 in the small sheet, so that the third is the sum of the
 /// others; SPLIT by table 101 leaves such columns at 1, 2 and 3.
 fn sixteen_steps() -> Vec<u16> {
-    let split: &[u16] = &[5, 1, 101];
-    let mut steps: Vec<&[u16]> = vec![&[1, 1], &[3, 1, 2, 0], &[4, 2, 1, 9, 17], split];
-    while steps.len() < 16 {
-        steps.extend([&[4, 2, 1, 2, 3], split]);
-    }
-    order(&parts_of_sum(), &steps)
+    order(
+        &parts_of_sum(),
+        &merged_and_split(&[&[1, 1], &[3, 1, 2, 0], &[4, 2, 1, 9, 17], &[5, 1, 101]]),
+    )
+}
+
+/// The same MERGE and SPLIT on table 101 itself: what a step costs beside its runs, the spare that it
+/// hands on among it.
+fn sixteen_small_steps() -> Vec<u16> {
+    order(&[], &merged_and_split(&[&[1, 101]]))
+}
+
+/// Sixteen steps: these, which leave columns 1, 2 and 3 as table 101 has them, then MERGE of the three
+/// and SPLIT to three again, in turn.
+fn merged_and_split(first: &[&'static [u16]]) -> Vec<&'static [u16]> {
+    let in_turn: [&[u16]; 2] = [&[4, 2, 1, 2, 3], &[5, 1, 101]];
+    let later = in_turn.into_iter().cycle();
+    first.iter().copied().chain(later).take(16).collect()
 }
 
 /// A matrix for two levels with 128 columns, and TAKE of a house table. The differences of three

@@ -1,5 +1,5 @@
 //! The proved planner and the second implementation, called alike: a list and three lent buffers in,
-//! seven numbers out, and in the buffers the bytes that 01 wants there.
+//! seven numbers and the spare out, and in the buffers the bytes that 01 wants there.
 
 use second::{Answer, Lengths};
 
@@ -32,26 +32,40 @@ impl Buffers {
 /// six details.
 pub type Numbers = [usize; 7];
 
-pub fn filled(runs: usize, columns: usize) -> Numbers {
-    [0, runs, columns, 0, 0, 0, 0]
+/// What a planner hands back beside the bytes. A refusal's spare is 0.
+#[derive(Clone, Copy, Debug, PartialEq, Eq)]
+pub struct Outcome {
+    pub numbers: Numbers,
+    pub spare: i64,
+}
+
+pub fn filled(runs: usize, columns: usize, spare: i64) -> Outcome {
+    Outcome {
+        numbers: [0, runs, columns, 0, 0, 0, 0],
+        spare,
+    }
+}
+
+pub fn refused(numbers: Numbers) -> Outcome {
+    Outcome { numbers, spare: 0 }
 }
 
 /// The proved planner, through the static library.
-pub fn proved(list: &[u16], buffers: &mut Buffers) -> Numbers {
+pub fn proved(list: &[u16], buffers: &mut Buffers) -> Outcome {
     let Buffers {
         table,
         levels,
         scratch,
     } = buffers;
     match yurbantze::plan_into(list, table, levels, scratch) {
-        Ok(size) => filled(size.runs, size.columns),
-        Err(refusal) => refusal.numbers(),
+        Ok(size) => filled(size.runs, size.columns, size.spare),
+        Err(refusal) => refused(refusal.numbers()),
     }
 }
 
 /// The second implementation. It has no buffers of its own kind, so they are cleared here and the
 /// table is put into them: 01 asks the same bytes of every planner.
-pub fn plain(list: &[u16], buffers: &mut Buffers) -> Numbers {
+pub fn plain(list: &[u16], buffers: &mut Buffers) -> Outcome {
     buffers.clear();
     let Buffers {
         table,
@@ -62,15 +76,16 @@ pub fn plain(list: &[u16], buffers: &mut Buffers) -> Numbers {
         Answer::Filled {
             runs,
             levels: counts,
+            spare,
             table: cells,
         } => {
             table[..cells.len()].copy_from_slice(&cells);
             levels[..counts.len()].copy_from_slice(&counts);
-            filled(runs, counts.len())
+            filled(runs, counts.len(), spare)
         }
         Answer::Refused { number, details } => {
             let [a, b, c, d, e, f] = details.map(|detail| detail as usize);
-            [number.into(), a, b, c, d, e, f]
+            refused([number.into(), a, b, c, d, e, f])
         }
     }
 }

@@ -1,6 +1,6 @@
 //! `compare N SEED`: N made orders, with the seeds from SEED on, through the static library, with
-//! other bytes in the three buffers before each call. Answer, six details and every byte of the
-//! buffers are compared with the second implementation's.
+//! other bytes in the three buffers before each call. Answer, six details, the spare of a filled
+//! order and every byte of the buffers are compared with the second implementation's.
 
 #![forbid(unsafe_code)]
 
@@ -30,11 +30,11 @@ fn compare(count: u64, first_seed: u64) -> ExitCode {
         let mut wanted_bytes = Buffers::zeros(call.lengths);
         let wanted = plain(&call.list, &mut wanted_bytes);
         let mut bytes = other_bytes(&call, seed);
-        let numbers = proved(&call.list, &mut bytes);
-        if numbers != wanted || bytes != wanted_bytes {
+        let outcome = proved(&call.list, &mut bytes);
+        if outcome != wanted || bytes != wanted_bytes {
             differing.push(seed);
         }
-        *answers.entry(wanted[0]).or_default() += 1;
+        *answers.entry(wanted.numbers[0]).or_default() += 1;
     }
 
     println!("{count} orders, seeds from {first_seed} on");

@@ -3,7 +3,7 @@
 
 use super::read::{Ingredient, Order, Shape, Step};
 use super::Stop;
-use crate::planners::{filled, Buffers, Numbers};
+use crate::planners::{filled, Buffers, Outcome};
 use std::mem::swap;
 use std::ops::Range;
 
@@ -17,7 +17,7 @@ struct Sheet<'b> {
     free: &'b mut [u8],
 }
 
-pub fn carry_out(order: &Order, buffers: &mut Buffers) -> Result<Numbers, Stop> {
+pub fn carry_out(order: &Order, buffers: &mut Buffers) -> Result<Outcome, Stop> {
     let (first, later) = order.steps.split_first().ok_or(Stop::NotWritten)?;
     let mut sheet = Sheet {
         runs: 0,
@@ -49,7 +49,12 @@ pub fn carry_out(order: &Order, buffers: &mut Buffers) -> Result<Numbers, Stop> 
     buffers.levels[..levels.len()].copy_from_slice(&levels);
     buffers.levels[levels.len()..].fill(0);
     buffers.scratch.fill(0);
-    Ok(filled(runs, levels.len()))
+    Ok(filled(runs, levels.len(), spare(runs, &levels)))
+}
+
+fn spare(runs: usize, levels: &[u8]) -> i64 {
+    let held: i64 = levels.iter().map(|&level| i64::from(level) - 1).sum();
+    runs as i64 - 1 - held
 }
 
 fn ingredient<'a>(order: &'a Order, number: usize) -> Result<&'a Ingredient<'a>, Stop> {

@@ -3,9 +3,9 @@
 
 use super::count::pairs;
 use super::Stop;
-use crate::planners::{Buffers, Numbers};
+use crate::planners::{Buffers, Outcome};
 
-pub fn plan(list: &[u16], buffers: &mut Buffers) -> Option<Numbers> {
+pub fn plan(list: &[u16], buffers: &mut Buffers) -> Option<Outcome> {
     super::plan_with(check_table, list, buffers)
 }
 
