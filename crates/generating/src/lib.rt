@@ -19,7 +19,7 @@ use order::Located;
 use places::ingredient_at;
 use sheets::answer::Answer;
 use sheets::answer::Refusal;
-use spare::spare_of;
+use spare::sheet_answer;
 
 // A generator where it stands in the list: t rows, n factors over a field of s elements, the place of the first width, the length of a row, and
 // the place of the first entry.
@@ -85,12 +85,7 @@ fn fill(list: &[u16], g: GeneratorAt, table: &mut [u8], levels: &mut [u8]) -> An
     let width = widest(list, g);
     let sums = level_sums(g.s, width);
     put_runs(list, g, runs, power(g.s as usize, width), &sums, table);
-    let columns = g.n;
-    Answer::Filled {
-        runs,
-        columns,
-        spare: spare_of(runs, columns, levels),
-    }
+    sheet_answer(runs, g.n, levels)
 }
 
 // The level counts: s to the power of its width for each factor.

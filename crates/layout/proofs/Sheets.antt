@@ -7,7 +7,6 @@ use Prim.Native.Nat.{ℕ, _+_, _-_, _*_, _≤_, _<_}
 use native.Mathlib.Nat.{le-trans, mul-le-mul}
 use native.Mathlib.Decide.{decLt}
 use native.Mathlib.Omega.{arith}
-use lib.IntN.{ℤ}
 use lib.ListN.{length, getD, take, drop, length-append, length-replicate, getD-replicate, List·getD-append, List·getD-eq-default}
 use lib.Seq.{length-take-le, take-at, drop-at, getD-take, getD-append-add}
 use Rattle.finite.specs.Lists.{from}
@@ -17,6 +16,7 @@ use Rattle.counting.specs.Table.{Table, columns, levelsOf, tableOf}
 use Rattle.step_tables.specs.Sheet.{SmallEnough, Agree}
 use Rattle.step_tables.proofs.Agreement.{agree-columns}
 use Rattle.spare.specs.Spare.{spareOf, spare}
+use Rattle.sheets.specs.declared.answer.Answer.{Answer}
 use Rattle.sheets.specs.declared.answer.Answer.the-variants.{Filled}
 use Rattle.layout.specs.Bytes.{runOf, runsOf, zeros, padded, Holds, Zeros, sheetIn}
 use Rattle.layout.specs.Step.{Ready}
@@ -160,14 +160,14 @@ module _ {A B : Table} (alike : Agree A B) where
 
 -- the spare degrees of a table that lies in the buffers are worked out from its level counts there
 module _ {S : Table} {table levels : List ℕ} (holds : Holds S table levels) {runs many : ℕ} (same-runs : runs ≡ S .runs) (same-columns : many ≡ columns S) where
-  -- what `spare_of` asks
+  -- what `sheet_answer` asks
   pub held-limits : SmallEnough S → (runs ≤ 512) × (many ≤ 128) × (many ≤ length levels)
   held-limits small =
       rw (same-runs, same-columns) (small .runs-most, small .columns-most, padded-within levels (S .levels) (holds .levels-first))
 
-  -- its size and what `spare_of` then gives are its answer
-  pub held-answer : {spared : ℤ} → spared ≡ spareOf runs (take many levels) → Filled runs many spared ≡ Filled (S .runs) (columns S) (spare S)
-  held-answer {spared} worked-out =
+  -- what it then gives is the answer to the table
+  pub held-answer : {answer : Answer} → answer ≡ Filled runs many (spareOf runs (take many levels)) → answer ≡ Filled (S .runs) (columns S) (spare S)
+  held-answer worked-out =
       let front : take many levels ≡ S .levels = ap (take many) (holds .levels-first) ∙ padded-front (length levels) many (S .levels) (sym same-columns) in
-      let same-spare : spared ≡ spare S = worked-out ∙ ap₂ spareOf same-runs front in
+      let same-spare : spareOf runs (take many levels) ≡ spare S = ap₂ spareOf same-runs front in
       cc

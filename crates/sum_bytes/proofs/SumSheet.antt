@@ -8,7 +8,6 @@ use Prim.Native.Nat.{ℕ, _+_, _*_, _%_, _≤_, _<_}
 use native.Mathlib.Nat.{le-trans, zero-add}
 use native.Mathlib.Omega.{arith}
 use lib.Dec.{leb}
-use lib.IntN.{ℤ}
 use lib.ListN.{length, getD, take, drop, replicate, length-append, length-replicate}
 use lib.Seq.{length-take-le}
 use Rattle.finite.specs.Lists.{from, AllBelow}
@@ -108,8 +107,8 @@ module _ {list entries widths : List ℕ} {rows : ℕ} (K : Table) {size : Size}
 -- ---- question 8
 
 module _ (n : ℕ) (S : Table) (table levels : List ℕ) {runs many : ℕ} (e : runs ≡ S .runs) (f : many ≡ columns S) where
-  pub left-small : runs ≤ 512 → many ≤ 128 → {table′ levels′ : List ℕ} {spared : ℤ} → Holds S table′ levels′ → spared ≡ spareOf runs (take many levels′)
-      → Left (sized n S) table levels (Filled runs many spared) table′ levels′
+  pub left-small : runs ≤ 512 → many ≤ 128 → {table′ levels′ : List ℕ} {answer : Answer} → Holds S table′ levels′
+      → answer ≡ Filled runs many (spareOf runs (take many levels′)) → Left (sized n S) table levels answer table′ levels′
   unfolding sized Left
   left-small h k holds worked-out =
       let small : SmallEnough S = record { runs-most = rw (← e) h; columns-most = rw (← f) k } in

@@ -12,7 +12,7 @@ use ingredients::named::table_named;
 use layout::Size;
 use sheets::answer::Answer;
 use sheets::answer::Refusal;
-use spare::spare_of;
+use spare::sheet_answer;
 use sum_questions::all_name_matrices;
 use sum_questions::is_missing;
 use sum_questions::matrix_named;
@@ -51,11 +51,7 @@ fn sized_sum(
         });
     }
     build(list, entries, widths, rows, k, size, table, levels, scratch);
-    Answer::Filled {
-        runs,
-        columns,
-        spare: spare_of(runs, columns, levels),
-    }
+    sheet_answer(runs, columns, levels)
 }
 
 // Question 6, and then question 8. M is the rows of the first matrix.

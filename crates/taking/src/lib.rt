@@ -7,7 +7,7 @@ use ingredients::named::NamedTable;
 use ingredients::named::table_named;
 use sheets::answer::Answer;
 use sheets::answer::Refusal;
-use spare::spare_of;
+use spare::sheet_answer;
 use table_putting::put_level_counts;
 use table_putting::put_runs;
 use table_reading::column_count;
@@ -27,11 +27,5 @@ pub fn take(list: &[u16], at: usize, table: &mut [u8], levels: &mut [u8]) -> Ans
     }
     put_runs(list, named, table);
     put_level_counts(list, named, levels, 0);
-    let runs = run_count(list, named);
-    let columns = column_count(list, named);
-    Answer::Filled {
-        runs,
-        columns,
-        spare: spare_of(runs, columns, levels),
-    }
+    sheet_answer(run_count(list, named), column_count(list, named), levels)
 }

@@ -3,9 +3,7 @@
 use mathlib.Core.Path.{sym, _∙_}
 use native.Mathlib.Nat.{le-trans}
 use lib.Dec.{lit≤}
-use borrow.Author.Needs.{needs, sfits-of}
-use mir.Facts.{toZ-ofZ}
-use mir.Syntax.{w64}
+use borrow.Author.Needs.{needs}
 use Rattle.galois.proofs.Fields.{size-positive}
 use Rattle.layout.specs.Step.{Left}
 use Rattle.layout.proofs.Rows.{put-holds}
@@ -62,8 +60,8 @@ put-runs-requires c κs =
       ),
     )
 
-spare-of-requires : tie.Need-spare-of-requires
-spare-of-requires c κs =
+sheet-answer-requires : tie.Need-sheet-answer-requires
+sheet-answer-requires c κs =
     let pre = c .before .before .before .before .before .before .before .before .before .before .before .before .before .before .before .before .before .before .before .pre in
     held-limits (put-holds _ (pre .1 .0 .1) (pre .1 .1 .1) (c .before .before .before .put-runs .ensures) (c .before .before .before .before .before .before .before .before .before .before .before .before .put-levels .ensures))
     (c .before .before .before .before .before .before .before .before .before .before .before .before .before .before .power .ensures ∙ sym (sheet-runs (pre .0)))
@@ -82,7 +80,7 @@ returns c =
     let pre = c .before .before .before .before .before .before .before .before .before .before .before .before .before .before .before .before .before .before .before .before .pre in
     let runs = c .before .before .before .before .before .before .before .before .before .before .before .before .before .before .before .power .ensures in
     let holds = put-holds _ (pre .1 .0 .1) (pre .1 .1 .1) (c .before .before .before .before .put-runs .ensures) (c .before .before .before .before .before .before .before .before .before .before .before .before .before .put-levels .ensures) in
-    (held-answer holds (runs ∙ sym (sheet-runs (pre .0))) (sym (sheet-columns (pre .0))) (toZ-ofZ {w = w64} (sfits-of (c .spare-of .ok)) ∙ c .spare-of .ensures), holds)
+    (held-answer holds (runs ∙ sym (sheet-runs (pre .0))) (sym (sheet-columns (pre .0))) (c .sheet-answer .ensures), holds)
 
 pub fill-spec : {M : Type 1} → statement M
 fill-spec =
@@ -97,7 +95,7 @@ fill-spec =
     power-requires-2
     slice-aggregate-put-runs
     put-runs-requires
-    spare-of-requires
+    sheet-answer-requires
     same-length
     same-length-2
     returns)

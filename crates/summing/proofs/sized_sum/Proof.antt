@@ -5,11 +5,9 @@ use Prim.Native.Nat.{_+_, _*_}
 use native.Mathlib.Nat.{mul-le-mul}
 use native.Mathlib.Omega.{arith}
 use borrow.Author.Tests.{ltb-true, ltb-false}
-use borrow.Author.Needs.{needs, sfits-of}
+use borrow.Author.Needs.{needs}
 use lib.ListN.{take}
 use lib.Seq.{length-take-le}
-use mir.Facts.{toZ-ofZ}
-use mir.Syntax.{w64}
 use Rattle.counting.specs.Table.{Table, columns as columnsOf}
 use Rattle.step_tables.specs.Sheet.{SmallEnough}
 use Rattle.ingredients.specs.Named.{tableIn}
@@ -86,8 +84,8 @@ build-requires c κs =
     let start = start-of (asked .before .before) in
     (start .pre .0, (start .pre .1 .0 .0, ((start .pre .1 .1 .0, start .pre .1 .1 .1), small asked)))
 
-spare-of-requires : tie.Need-spare-of-requires
-spare-of-requires c κs =
+sheet-answer-requires : tie.Need-sheet-answer-requires
+sheet-answer-requires c κs =
     let built = c .before .before .before .before .before .before .before in
     let asked = built .before .before .before .before in
     held-limits (built .build .ensures .0) (runs-known (start-of (asked .before .before))) (many (asked .before .before)) (small asked)
@@ -107,7 +105,7 @@ returns-2 c =
     let asked = built .before .before .before .before in
     let counted = asked .before .before in
     let start = start-of counted in (
-      left-small (start .args .number) (next-of start) _ _ (runs-known start) (many counted) (asked .before .if1 .left) (ltb-false _ _ (asked .if2 .left)) (built .build .ensures .0) (toZ-ofZ {w = w64} (sfits-of (c .spare-of .ok)) ∙ c .spare-of .ensures),
+      left-small (start .args .number) (next-of start) _ _ (runs-known start) (many counted) (asked .before .if1 .left) (ltb-false _ _ (asked .if2 .left)) (built .build .ensures .0) (c .sheet-answer .ensures),
       built .build .ensures .1,
     )
 
@@ -124,7 +122,7 @@ sized-sum-spec =
     same-length
     returns
     build-requires
-    spare-of-requires
+    sheet-answer-requires
     same-length-2
     same-length-3
     same-length-4

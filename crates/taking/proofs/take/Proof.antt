@@ -2,9 +2,7 @@
 use mathlib.Core.Path.{refl, _∙_}
 use native.Mathlib.Nat.{le-trans}
 use native.Mathlib.Omega.{arith}
-use borrow.Author.Needs.{needs, sfits-of}
-use mir.Facts.{toZ-ofZ}
-use mir.Syntax.{w64}
+use borrow.Author.Needs.{needs}
 use Rattle.layout.specs.Step.{Left}
 use Rattle.layout.proofs.Operands.{some-named}
 use Rattle.layout.proofs.Rows.{put-holds}
@@ -54,8 +52,8 @@ run-count-requires c κs =
 column-count-requires : tie.Need-column-count-requires
 column-count-requires c κs = run-count-requires (c .before) κs
 
-spare-of-requires : tie.Need-spare-of-requires
-spare-of-requires c κs =
+sheet-answer-requires : tie.Need-sheet-answer-requires
+sheet-answer-requires c κs =
     let start = c .before .before .before .before .before .before .before .before .before .before .before .before .before .before .before .before .before in
     let found = c .before .before .before .before .before .before .before .before .before .before .before .before .table-named .ensures in
     held-limits (put-holds _ (start .pre .1 .1 .0 .1) (start .pre .1 .1 .1 .1) (c .before .before .before .before .before .before .before .before .before .put-runs .ensures) (c .before .before .before .before .before .put-level-counts .ensures))
@@ -76,7 +74,7 @@ returns-2 c =
     let choice = c .before .before .before .before .before .before .before .before .before .before .before .before in
     let holds = put-holds _ (start .pre .1 .1 .0 .1) (start .pre .1 .1 .1 .1) (c .before .before .before .before .before .before .before .before .before .before .put-runs .ensures) (c .before .before .before .before .before .before .put-level-counts .ensures) in
     rw (one-taken (start .pre .1 .0) (start .pre .0) _ (choice .before .table-named .ensures) (some-named _ _ (choice .match .keys2)))
-    (held-answer holds (c .before .before .before .run-count .ensures) (c .before .before .column-count .ensures) (toZ-ofZ {w = w64} (sfits-of (c .spare-of .ok)) ∙ c .spare-of .ensures), holds)
+    (held-answer holds (c .before .before .before .run-count .ensures) (c .before .before .column-count .ensures) (c .sheet-answer .ensures), holds)
 
 pub take-spec : {M : Type 1} → statement M
 take-spec =
@@ -92,7 +90,7 @@ take-spec =
     put-level-counts-requires
     run-count-requires
     column-count-requires
-    spare-of-requires
+    sheet-answer-requires
     same-length
     same-length-2
     returns-2)
