@@ -4,7 +4,7 @@
 //     # a remark, up to the end of its line
 //     @ 1 0 0 128 1 0
 //     0 2 1 101 4 2 1 2 3 =
-//     4 1
+//     4 1 0
 //     4
 //     0
 //     1
@@ -15,16 +15,14 @@
 // An order goes up to "=" and the end of that line; then comes what the program `planner` prints, up to ";". A line with "@" gives the lengths of run
 // table, level list and scratch from there on, each as two numbers: 65,536 times the first, plus the second. A record without "=" differs, and so does
 // one of 262,144 bytes or more, for which there is no room.
-mod judge; // judge.rt: one order and its stored answer
-
 ghost use mathlib.Core.Path.{_≡_};
 ghost use mathlib.Core.List.{[]};
 ghost use Prim.Native.Nat.{_≤_};
 ghost use lib.ListN.{length};
 ghost use Rattle.record_texts.specs.Text.{Compared, endsItem, afterRecord, afterItem, afterByte, afterText};
 ghost use Rattle.record_texts.specs.State.{progress, progressOf};
-use judge::judge;
-use judge::lengths_of;
+use judging::judge;
+use judging::lengths_of;
 use libc::STDIN_FILENO;
 use record_texts::Lengths;
 use record_texts::State;

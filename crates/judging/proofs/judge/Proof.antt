@@ -8,8 +8,8 @@ use Rattle.words.proofs.Bounds.{ended-room}
 use Rattle.byte_texts.proofs.Comparing.{rest-whole, first-most}
 use Rattle.record_texts.proofs.Judging.{reads-numbers, reads-refused, judged-whole}
 use borrow.Author.Needs.{needs}
-use Rattle.records.proofs.judge.judge.Statement.{statement}
-use Rattle.records.proofs.judge.judge.Tie as tie
+use Rattle.judging.proofs.judge.Statement.{statement}
+use Rattle.judging.proofs.judge.Tie as tie
 
 -- the order ends within the record
 end-within : (c : tie.After-find) → c .find .result ≤ length (c .before .before .args .bytes .now)

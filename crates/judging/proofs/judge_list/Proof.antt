@@ -5,8 +5,8 @@ use lib.ListN.{length-replicate}
 use lib.Seq.{length-take-le}
 use Rattle.record_texts.proofs.Judging.{judged-alike}
 use borrow.Author.Needs.{needs}
-use Rattle.records.proofs.judge.judge_list.Statement.{statement}
-use Rattle.records.proofs.judge.judge_list.Tie as tie
+use Rattle.judging.proofs.judge_list.Statement.{statement}
+use Rattle.judging.proofs.judge_list.Tie as tie
 
 within-requires : tie.Need-within-requires
 within-requires c κs = search needs

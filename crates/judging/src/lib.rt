@@ -1,4 +1,4 @@
-// One order and its stored answer.
+// One order and its stored answer: an order is planned in buffers that are full of other bytes, and what is printed of it is held to what is stored.
 ghost use mathlib.Core.Path.{_≡_};
 ghost use mathlib.Core.List.{_∷_};
 ghost use Prim.Native.Nat.{_+_, _*_, _≤_, min};
@@ -63,7 +63,7 @@ fn lengths_in(list: &[u16]) -> Lengths
 }
 
 // The lengths that a line gives.
-pub(crate) fn lengths_of(line: &[u8]) -> Lengths
+pub fn lengths_of(line: &[u8]) -> Lengths
     ensures { λ r. ⌜ r ≡ lengthsGiven (now (line .entry)) ⌝ }
 {
     let mut list = [0u16; 32768];
@@ -81,7 +81,7 @@ fn within(length: usize, room: usize) -> usize
 }
 
 // A record: an order up to "=", the end of that line, and what is printed of it.
-pub(crate) fn judge(bytes: &[u8], lengths: Lengths) -> Judged
+pub fn judge(bytes: &[u8], lengths: Lengths) -> Judged
     ensures { λ r. ⌜ r ≡ judged (now (bytes .entry)) lengths ⌝ }
 {
     let end = find(bytes, b'=');

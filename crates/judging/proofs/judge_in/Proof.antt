@@ -3,8 +3,8 @@ use Rattle.buffers.proofs.Puts.{put-part, put-front}
 use Rattle.printing.proofs.Printing.{promise-printable}
 use Rattle.record_texts.proofs.Judging.{promise-judged}
 use borrow.Author.Needs.{needs}
-use Rattle.records.proofs.judge.judge_in.Statement.{statement}
-use Rattle.records.proofs.judge.judge_in.Tie as tie
+use Rattle.judging.proofs.judge_in.Statement.{statement}
+use Rattle.judging.proofs.judge_in.Tie as tie
 
 printed-room-requires : tie.Need-printed-room-requires
 printed-room-requires c κs = search needs

@@ -2,8 +2,8 @@
 use Rattle.words.proofs.Bounds.{sound-start, sound-piece, sound-finish}
 use Rattle.record_texts.proofs.Judging.{scanned-text}
 use borrow.Author.Needs.{needs}
-use Rattle.records.proofs.judge.scan.Statement.{statement}
-use Rattle.records.proofs.judge.scan.Tie as tie
+use Rattle.judging.proofs.scan.Statement.{statement}
+use Rattle.judging.proofs.scan.Tie as tie
 
 start-requires : tie.Need-start-requires
 start-requires c κs = search needs

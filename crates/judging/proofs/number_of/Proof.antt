@@ -1,8 +1,8 @@
 -- `number_of` meets its contract, for a table and for a refusal.
 use Rattle.record_texts.proofs.Judging.{filled-number, refused-number}
 use borrow.Author.Needs.{needs}
-use Rattle.records.proofs.judge.number_of.Statement.{statement}
-use Rattle.records.proofs.judge.number_of.Tie as tie
+use Rattle.judging.proofs.number_of.Statement.{statement}
+use Rattle.judging.proofs.number_of.Tie as tie
 
 enum-told : tie.Need-enum-told
 enum-told c = search needs

@@ -3,8 +3,8 @@ use mathlib.Core.Path.{refl, sym}
 use native.Mathlib.Omega.{arith}
 use lib.ListN.{List·getD-eq-default}
 use borrow.Author.Needs.{needs}
-use Rattle.records.proofs.judge.number_at.Statement.{statement}
-use Rattle.records.proofs.judge.number_at.Tie as tie
+use Rattle.judging.proofs.number_at.Statement.{statement}
+use Rattle.judging.proofs.number_at.Tie as tie
 
 mul-result : tie.Need-mul-result
 mul-result c = search needs

@@ -4,8 +4,8 @@ use Rattle.byte_texts.specs.Bytes.{sameBytes}
 use Rattle.byte_texts.proofs.Comparing.{rest-whole}
 use Rattle.record_texts.proofs.Judging.{stored-short, stored-other, stored-on, stored-rest}
 use borrow.Author.Needs.{needs}
-use Rattle.records.proofs.judge.is_stored.Statement.{statement}
-use Rattle.records.proofs.judge.is_stored.Tie as tie
+use Rattle.judging.proofs.is_stored.Statement.{statement}
+use Rattle.judging.proofs.is_stored.Tie as tie
 
 returns : tie.Need-returns
 returns c = stored-short _ _ (c .if1 .taken)

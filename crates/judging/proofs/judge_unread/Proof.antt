@@ -2,8 +2,8 @@
 use Rattle.buffers.proofs.Puts.{put-part, put-front}
 use Rattle.record_texts.proofs.Judging.{judged-unread}
 use borrow.Author.Needs.{needs}
-use Rattle.records.proofs.judge.judge_unread.Statement.{statement}
-use Rattle.records.proofs.judge.judge_unread.Tie as tie
+use Rattle.judging.proofs.judge_unread.Statement.{statement}
+use Rattle.judging.proofs.judge_unread.Tie as tie
 
 slice-aggregate-put-refused : tie.Need-slice-aggregate-put-refused
 slice-aggregate-put-refused c = search needs

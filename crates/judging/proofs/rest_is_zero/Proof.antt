@@ -2,8 +2,8 @@
 use native.Mathlib.Omega.{arith}
 use Rattle.record_texts.proofs.Judging.{cells-within, filled-rest, refused-rest}
 use borrow.Author.Needs.{needs}
-use Rattle.records.proofs.judge.rest_is_zero.Statement.{statement}
-use Rattle.records.proofs.judge.rest_is_zero.Tie as tie
+use Rattle.judging.proofs.rest_is_zero.Statement.{statement}
+use Rattle.judging.proofs.rest_is_zero.Tie as tie
 
 enum-known-answer : tie.Need-enum-known-answer
 enum-known-answer c = search needs

@@ -4,8 +4,8 @@ use lib.Seq.{length-take-le}
 use Rattle.words.proofs.Bounds.{ended-room}
 use Rattle.record_texts.proofs.Judging.{reads-numbers, reads-refused, lengths-read}
 use borrow.Author.Needs.{needs}
-use Rattle.records.proofs.judge.lengths_of.Statement.{statement}
-use Rattle.records.proofs.judge.lengths_of.Tie as tie
+use Rattle.judging.proofs.lengths_of.Statement.{statement}
+use Rattle.judging.proofs.lengths_of.Tie as tie
 
 scan-requires : tie.Need-scan-requires
 scan-requires c κs = search needs

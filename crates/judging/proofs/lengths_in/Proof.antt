@@ -1,8 +1,8 @@
 -- `lengths_in` meets its contract: the three lengths.
 use Rattle.record_texts.proofs.Judging.{lengths-three}
 use borrow.Author.Needs.{needs}
-use Rattle.records.proofs.judge.lengths_in.Statement.{statement}
-use Rattle.records.proofs.judge.lengths_in.Tie as tie
+use Rattle.judging.proofs.lengths_in.Statement.{statement}
+use Rattle.judging.proofs.lengths_in.Tie as tie
 
 length-at-requires : tie.Need-length-at-requires
 length-at-requires c κs = search needs
