@@ -1,5 +1,5 @@
 // The planner for programs in Rust, C and other languages: numbers and slices alone. include/yurbantze.h is the declaration for C.
-ghost use Rattle.exported.specs.Exported.{PromiseInNumbers};
+ghost use Rattle.promise.specs.PromiseInNumbers.{PromiseInNumbers};
 use construction::plan;
 use numbering::answer_numbers;
 use numbering::answer_spare;

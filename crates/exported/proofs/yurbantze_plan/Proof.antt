@@ -3,7 +3,7 @@ use borrow.Author.Needs.{needs, sfits-of}
 use mir.Facts.{toZ-ofZ}
 use mir.Syntax.{w64}
 use mathlib.Core.Path.{refl, _∙_}
-use Rattle.exported.proofs.InNumbers.{in-numbers}
+use Rattle.promise.proofs.PromisesInNumbers.{in-numbers}
 use Rattle.exported.proofs.yurbantze_plan.Statement.{statement}
 use Rattle.exported.proofs.yurbantze_plan.Tie as tie
 

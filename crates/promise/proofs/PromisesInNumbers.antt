@@ -10,8 +10,8 @@ use Rattle.sheets.specs.declared.answer.Refusal.{Refusal}
 use Rattle.sheets.specs.declared.answer.Answer.{Answer}
 use Rattle.sheets.specs.declared.answer.Answer.the-variants.{Filled, Refused}
 use Rattle.sheets.proofs.Numbers.{number-of-eleven}
 use Rattle.promise.specs.Promise.{Promise}
-use Rattle.exported.specs.Exported.{answerFrom, PromiseInNumbers}
+use Rattle.promise.specs.PromiseInNumbers.{answerFrom, PromiseInNumbers}
 
 -- no refusal has the number 0
 refusal-not-zero : (why : Refusal) → getD (numbered why) 0 0 ≡ 0 → ⊥
