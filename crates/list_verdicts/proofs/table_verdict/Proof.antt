@@ -1,12 +1,12 @@
--- `passing::table_verdict` meets its contract: what is lent to the check are the level counts and the entries of the list.
+-- `list_verdicts::table_verdict` meets its contract: what is lent to the check are the level counts and the entries of the list.
 -- Assumes nothing.
 use Rattle.buffers.proofs.Puts.{put-part, put-front}
 use Rattle.ingredients.specs.Named.{tableIn}
 use Rattle.question_4.proofs.Copies.{put-undone}
 use Rattle.question_4.proofs.Checking.{levels-copyable, cells-copyable, table-checkable}
 use borrow.Author.Needs.{needs}
-use Rattle.passing.proofs.table_verdict.Statement.{statement}
-use Rattle.passing.proofs.table_verdict.Tie as tie
+use Rattle.list_verdicts.proofs.table_verdict.Statement.{statement}
+use Rattle.list_verdicts.proofs.table_verdict.Tie as tie
 
 mul-size : tie.Need-mul-size
 mul-size c = search needs

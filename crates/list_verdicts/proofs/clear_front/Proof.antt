@@ -1,12 +1,12 @@
--- `passing::clear_front` meets its contract: the part that is lent comes back as that many zeros.
+-- `list_verdicts::clear_front` meets its contract: the part that is lent comes back as that many zeros.
 -- Assumes nothing.
 use mathlib.Core.Path.{sym, _∙_, ap}
 use lib.ListN.{replicate}
 use lib.Seq.{length-take-le}
 use Rattle.question_4.proofs.Copies.{put-zeros}
 use borrow.Author.Needs.{needs}
-use Rattle.passing.proofs.clear_front.Statement.{statement}
-use Rattle.passing.proofs.clear_front.Tie as tie
+use Rattle.list_verdicts.proofs.clear_front.Statement.{statement}
+use Rattle.list_verdicts.proofs.clear_front.Tie as tie
 
 slice-relend-prefix-clear : tie.Need-slice-relend-prefix-clear
 slice-relend-prefix-clear c = search needs

@@ -1,11 +1,11 @@
--- `passing::generator_finding` meets its contract: what is lent to the check are the widths and the entries of the list.
+-- `list_verdicts::generator_finding` meets its contract: what is lent to the check are the widths and the entries of the list.
 -- Assumes nothing.
 use Rattle.buffers.proofs.Puts.{put-part, put-front}
 use Rattle.question_4.proofs.Copies.{put-undone}
 use Rattle.question_4.proofs.Checking.{widths-copyable, generator-copyable, generator-checkable}
 use borrow.Author.Needs.{needs}
-use Rattle.passing.proofs.generator_finding.Statement.{statement}
-use Rattle.passing.proofs.generator_finding.Tie as tie
+use Rattle.list_verdicts.proofs.generator_finding.Statement.{statement}
+use Rattle.list_verdicts.proofs.generator_finding.Tie as tie
 
 mul-size : tie.Need-mul-size
 mul-size c = search needs

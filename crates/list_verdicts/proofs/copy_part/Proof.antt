@@ -1,4 +1,4 @@
--- `passing::copy_part` meets its contract: the part that is lent has as many numbers as are asked for.
+-- `list_verdicts::copy_part` meets its contract: the part that is lent has as many numbers as are asked for.
 -- Assumes nothing.
 use mathlib.Core.Path.{_≡_, _∙_}
 use Prim.Native.Nat.{_+_, _-_}
@@ -7,8 +7,8 @@ use native.Mathlib.Omega.{arith}
 use denote.Ref.{now}
 use Rattle.ingredients.proofs.Parts.{part-length}
 use borrow.Author.Needs.{needs}
-use Rattle.passing.proofs.copy_part.Statement.{statement}
-use Rattle.passing.proofs.copy_part.Tie as tie
+use Rattle.list_verdicts.proofs.copy_part.Statement.{statement}
+use Rattle.list_verdicts.proofs.copy_part.Tie as tie
 
 add-end : tie.Need-add-end
 add-end c = search needs

@@ -1,11 +1,11 @@
--- `passing::matrix_finding` meets its contract: what is lent to the check are the entries of the list.
+-- `list_verdicts::matrix_finding` meets its contract: what is lent to the check are the entries of the list.
 -- Assumes nothing.
 use Rattle.buffers.proofs.Puts.{put-part, put-front}
 use Rattle.question_4.proofs.Copies.{put-undone}
 use Rattle.question_4.proofs.Checking.{matrix-copyable, matrix-checkable}
 use borrow.Author.Needs.{needs}
-use Rattle.passing.proofs.matrix_finding.Statement.{statement}
-use Rattle.passing.proofs.matrix_finding.Tie as tie
+use Rattle.list_verdicts.proofs.matrix_finding.Statement.{statement}
+use Rattle.list_verdicts.proofs.matrix_finding.Tie as tie
 
 mul-size : tie.Need-mul-size
 mul-size c = search needs
