@@ -1,21 +1,21 @@
 // The sheet that step 3, SUM r, d1 .. dr, k, leaves: each run of the sheet with each row of the matrices, and k's columns adjoined. It is built in
 // the scratch, run by run.
 ghost use mathlib.Core.Path.{_≡_};
-ghost use mathlib.Core.List.{_++_, map, flatMap};
-ghost use Prim.Native.Nat.{_+_, _*_, _≤_, _<_};
+ghost use mathlib.Core.List.{_++_, flatMap};
+ghost use Prim.Native.Nat.{_+_, _*_, _≤_};
 ghost use lib.ListN.{length, replicate};
 ghost use Rattle.finite.specs.Lists.{from, AllBelow};
 ghost use Rattle.buffers.specs.Put.{Put};
 ghost use Rattle.ingredients.specs.Named.{tableIn, Legible};
 ghost use Rattle.step_tables.specs.Sheet.{SmallEnough};
-ghost use Rattle.step_tables.specs.Sum.{levelSum};
 ghost use Rattle.layout.specs.Bytes.{Holds, Zeros};
 ghost use Rattle.layout.specs.Step.{Ready};
-ghost use Rattle.sum_bytes.specs.Summing.{EntriesStand, RowStands, RunStands, SheetStands, summedLevels, summedRun, builtRun, nextSheet, Adjoins};
+ghost use Rattle.sum_bytes.specs.Summing.{EntriesStand, SheetStands, summedLevels, builtRun, nextSheet, Adjoins};
 use buffers::put_byte;
 use ingredients::named::NamedTable;
 use layout::Size;
 use settling::settle;
+use summed_run::put_summed_run;
 use table_putting::put_level_counts;
 use table_putting::put_run;
 
@@ -32,63 +32,6 @@ pub fn summed_columns(levels: &[u8], widths: &[u8]) -> usize
         j += 1;
     }
     total
-}
-
-// The sum of two levels modulo p.
-fn level_sum(p: u8, a: u8, b: u16) -> u8
-    requires { ⌜ (a < p) × (b < p) ⌝ }
-    ensures { λ r. ⌜ r ≡ levelSum p a b ⌝ }
-{
-    let total = a as u16 + b;
-    if total < p as u16 {
-        total as u8
-    } else {
-        (total - p as u16) as u8
-    }
-}
-
-// The sums of a level with each entry of a matrix row.
-fn put_sums(buf: &mut [u8], at: usize, p: u8, level: u8, row: &[u16]) -> usize
-    requires { ⌜ at + length (now row) ≤ length (now buf) ⌝ }
-    requires { ⌜ (level < p) × AllBelow p (now row) ⌝ }
-    ensures { λ r. ⌜ Put (now (buf .entry)) at (map (levelSum p level) (now (row .entry))) (now (buf .exit)) r ⌝ }
-{
-    let mut place = at;
-    let mut c = 0;
-    while c < row.len() {
-        place = put_byte(buf, place, level_sum(p, level, row[c]));
-        c += 1;
-    }
-    place
-}
-
-// The sums of a sheet run, column by column, with a row of the matrices that serve its level counts.
-fn put_summed_run(
-    buf: &mut [u8],
-    at: usize,
-    list: &[u16],
-    entries: &[u16],
-    widths: &[u8],
-    row: usize,
-    levels: &[u8],
-    cells: &[u8],
-) -> usize
-    requires { ⌜ RowStands (now list) (now entries) (now widths) row ⌝ }
-    requires { ⌜ RunStands (now levels) (now cells) ⌝ }
-    requires { ⌜ at + length (summedRun (now list) (now entries) (now widths) row (now levels) (now cells)) ≤ length (now buf) ⌝ }
-    ensures { λ r. ⌜ Put (now (buf .entry)) at (summedRun (now (list .entry)) (now (entries .entry)) (now (widths .entry)) row (now (levels .entry)) (now (cells .entry))) (now (buf .exit)) r ⌝ }
-{
-    let mut place = at;
-    let mut j = 0;
-    while j < levels.len() {
-        let s = levels[j] as usize;
-        let width = widths[s] as usize;
-        let start = entries[s] as usize + row * width;
-        let end = start + width;
-        place = put_sums(buf, place, levels[j], cells[j], &list[start..end]);
-        j += 1;
-    }
-    place
 }
 
 // The runs of the next sheet: each sheet run with each matrix row, and the adjoined table's run of that row.

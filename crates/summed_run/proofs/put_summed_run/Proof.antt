@@ -1,4 +1,4 @@
--- `summed_sheet::put_summed_run` meets its contract. The invariant: the sums of the first `j` columns are put, up to `place`.
+-- `summed_run::put_summed_run` meets its contract. The invariant: the sums of the first `j` columns are put, up to `place`.
 use Prim.Native.Nat.{ℕ, _<_, _-_}
 use native.Mathlib.Omega.{arith}
 use borrow.Author.Needs.{needs}
@@ -8,8 +8,8 @@ use Rattle.buffers.proofs.Puts.{put-length}
 use Rattle.sum_bytes.specs.Summing.{summedCells, summedRun}
 use Rattle.sum_bytes.proofs.Pieces.{Pieces, pieces-none, below-room, below-next, below-all}
 use Rattle.sum_bytes.proofs.Sums.{row-part, cells-length}
-use Rattle.summed_sheet.proofs.put_summed_run.Statement.{statement}
-use Rattle.summed_sheet.proofs.put_summed_run.Tie as tie
+use Rattle.summed_run.proofs.put_summed_run.Statement.{statement}
+use Rattle.summed_run.proofs.put_summed_run.Tie as tie
 
 abbrev Inv-loop : tie.InvT-loop
 Inv-loop buf₀ at list entries widths row levels cells place₀ j₀ buf place j =

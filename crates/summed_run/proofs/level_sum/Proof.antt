@@ -1,8 +1,8 @@
--- `summed_sheet::level_sum` meets its contract: a sum of two numbers below p is at most once too large.
+-- `summed_run::level_sum` meets its contract: a sum of two numbers below p is at most once too large.
 use borrow.Author.Needs.{needs}
 use Rattle.sum_bytes.proofs.Sums.{sum-small, sum-large}
-use Rattle.summed_sheet.proofs.level_sum.Statement.{statement}
-use Rattle.summed_sheet.proofs.level_sum.Tie as tie
+use Rattle.summed_run.proofs.level_sum.Statement.{statement}
+use Rattle.summed_run.proofs.level_sum.Tie as tie
 
 add-total : tie.Need-add-total
 add-total c = search needs

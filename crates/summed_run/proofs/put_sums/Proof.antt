@@ -1,4 +1,4 @@
--- `summed_sheet::put_sums` meets its contract. The invariant: the sums with the first `c` entries are put, up to `place`.
+-- `summed_run::put_sums` meets its contract. The invariant: the sums with the first `c` entries are put, up to `place`.
 use mathlib.Core.Path.{sym, _∙_}
 use mathlib.Core.List.{map}
 use Prim.Native.Nat.{_-_}
@@ -10,8 +10,8 @@ use Rattle.finite.proofs.Lists.{getD-map}
 use Rattle.buffers.proofs.Puts.{put-length}
 use Rattle.step_tables.specs.Sum.{levelSum}
 use Rattle.sum_bytes.proofs.Pieces.{Front, front-none, front-room, front-next, front-all}
-use Rattle.summed_sheet.proofs.put_sums.Statement.{statement}
-use Rattle.summed_sheet.proofs.put_sums.Tie as tie
+use Rattle.summed_run.proofs.put_sums.Statement.{statement}
+use Rattle.summed_run.proofs.put_sums.Tie as tie
 
 abbrev Inv-loop : tie.InvT-loop
 Inv-loop buf₀ at p level row place₀ c₀ buf place c = Front (map (levelSum p level) row) buf₀ at c buf place
