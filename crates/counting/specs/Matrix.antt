@@ -1,10 +1,11 @@
 -- Difference matrices: document 01, "What is counted", after 000.
 use mathlib.Core.Path.{_≡_}
-use Prim.Native.Nat.{ℕ, _+_, _-_, _*_, _%_, _<_}
+use Prim.Native.Nat.{ℕ, _+_, _*_, _<_}
 use mathlib.Core.List.{List}
 use lib.Dec.{eqb}
 use lib.ListN.{getD}
 use Rattle.finite.specs.Sum.{count}
+use Rattle.galois.specs.Levels.{levelDifference}
 
 -- M rows, k columns, the number p, and the entry in a row and a column, both from 0
 pub record Matrix : Type 0 where
@@ -18,13 +19,9 @@ unfoldable pub matrixOf : List ℕ → ℕ → ℕ → ℕ → Matrix
 matrixOf entries rows columns p =
     record { rows = rows; columns = columns; modulus = p; entry = λ r c. getD entries (r * columns + c) 0 }
 
--- x minus y modulo p
-unfoldable pub difference : ℕ → ℕ → ℕ → ℕ
-difference p x y = (x + (p - y)) % p
-
 -- column c minus column d in row r
 unfoldable pub rowDifference : Matrix → ℕ → ℕ → ℕ → ℕ
-rowDifference D c d r = difference (D .modulus) (D .entry r c) (D .entry r d)
+rowDifference D c d r = levelDifference (D .modulus) (D .entry r c) (D .entry r d)
 
 -- in how many rows column c minus column d is v
 unfoldable pub differences : Matrix → ℕ → ℕ → ℕ → ℕ

@@ -1,5 +1,5 @@
--- What follows from the laws of any abelian group and of any field: adding an element and adding its opposite undo each other,
--- and a product with 0 is 0. Assumes nothing.
+-- What follows from the laws of any abelian group and of any field: adding an element and adding its opposite undo each other, so that what is
+-- added on both sides can go, and a product with 0 is 0. Assumes nothing.
 use mathlib.Core.Path.{_≡_, sym, _∙_, ap}
 use Prim.Native.Nat.{ℕ, _<_}
 use Rattle.galois.specs.Laws.{AbelianGroup, Field}
@@ -17,6 +17,9 @@ module _ {n : ℕ} {plus : ℕ → ℕ → ℕ} (group : AbelianGroup n plus) wh
       group .sums .associates hx (group .opposite-below ha) ha
       ∙ ap (plus x) (group .sums .commutes (group .opposite-below ha) ha ∙ group .opposite-cancels ha)
       ∙ zero-right hx
+
+  pub cancel-right : {x y a : ℕ} → x < n → y < n → a < n → plus x a ≡ plus y a → x ≡ y
+  cancel-right {a = a} hx hy ha e = sym (add-subtract hx ha) ∙ ap (λ (z : ℕ). plus z (group .opposite a)) e ∙ add-subtract hy ha
 
 module _ {s : ℕ} {plus times : ℕ → ℕ → ℕ} (field : Field s plus times) where
   -- a × 0 is a × (0 + 0)

@@ -1,19 +1,15 @@
 -- Each of the seven fields has the field laws: one test tries them at all elements, antt computes it at each size,
 -- and a lemma turns what it tried into the record of laws. Assumes nothing.
-use mathlib.Core.Bool.{Bool, cond, _||_}
+use mathlib.Core.Bool.{Bool, _||_}
 use mathlib.Core.List.{List, [], _∷_, map}
-use Prim.Native.Nat.{ℕ, zero, suc, _<_}
+use Prim.Native.Nat.{ℕ, _<_}
 use native.Mathlib.Nat.{ne-of-gt}
 use lib.Dec.{T, eqb, ltb}
 use mir.Facts.{eqb-yes, ltb-yes}
 use Rattle.galois.specs.Arithmetic.{fieldSizes, fieldSize, fieldSum, fieldProduct}
+use Rattle.galois.specs.Levels.{find}
 use Rattle.galois.specs.Laws.{CommutativeMonoid, AbelianGroup, Field}
 use Rattle.galois.proofs.Tests.{every, every², every³, at, at², at³, all, passed, among, otherwise}
-
--- the largest number below n at which the test passes, else 0
-abbrev find : ℕ → (ℕ → Bool) → ℕ
-find zero f = 0
-find (suc n) f = cond (f n) n (find n f)
 
 -- the element that op takes with a to e
 abbrev partner : ℕ → ℕ → (ℕ → ℕ → ℕ) → ℕ → ℕ

@@ -1,5 +1,6 @@
 pub mod Derived
 pub mod Fields
+pub mod Levels
 pub mod Modulo
 pub mod Tests
 pub mod FieldAlgebra

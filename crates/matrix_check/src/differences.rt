@@ -1,4 +1,5 @@
 // The differences of two columns of a matrix, counted over its rows.
+use group_sums::level_sum;
 use tally::Deviation;
 use tally::first_deviation;
 ghost use mathlib.Core.Path.{_≡_};
@@ -9,7 +10,7 @@ ghost use Rattle.counting.specs.Verdict.{differenceDeviation};
 ghost use Rattle.tally.specs.Tally.{Cleared, Tallied, asDeviation};
 ghost use Rattle.matrix_check.specs.Differences.{DifferencesOf};
 
-// The lowest of the p differences of two columns, first minus second modulo p, that is not that of the p-th part of the rows.
+// The lowest of the p differences of two columns, first minus second, that is not that of the p-th part of the rows.
 pub fn differences_deviation(
     entries: &[u8],
     rows: usize,
@@ -69,8 +70,8 @@ fn tally_differences(
     }
 }
 
-// The difference of any two entries x and y, at x times p plus y. It is made once for a matrix, so that a row costs a look-up and neither a division
-// nor a branch.
+// The difference of any two entries x and y, at x times p plus y: what, added to y, gives x. It is made once for a matrix, so that a row costs a
+// look-up and neither a sum nor a branch.
 pub fn difference_table(p: usize) -> [u8; 4096]
     requires { ⌜ (1 ≤ p) × (p ≤ 64) ⌝ }
     ensures { λ r. ⌜ DifferencesOf p (p * p) r ⌝ }
@@ -78,9 +79,10 @@ pub fn difference_table(p: usize) -> [u8; 4096]
     let mut differences = [0u8; 4096];
     let mut place = 0;
     while place < p * p {
-        let x = place / p;
+        let difference = (place / p) as u8;
         let y = place % p;
-        differences[place] = ((x + (p - y)) % p) as u8;
+        let x = level_sum(p as u8, difference, y as u16) as usize;
+        differences[x * p + y] = difference;
         place += 1;
     }
     differences

@@ -10,8 +10,9 @@ use Rattle.finite.specs.Digits.{digits, numeral}
 use Rattle.finite.specs.Lists.{from}
 use Rattle.galois.specs.Arithmetic.{fieldSum, fieldProduct}
 use Rattle.galois.specs.Combination.{combination}
+use Rattle.galois.specs.Levels.{differenceIn, levelDifference}
 use Rattle.counting.specs.Table.{Table, columns, tableOf, shows, times}
-use Rattle.counting.specs.Matrix.{matrixOf, difference, rowDifference, differences}
+use Rattle.counting.specs.Matrix.{matrixOf, rowDifference, differences}
 use Rattle.counting.specs.Generator.{generatorOf, width, factorColumns, columnsOf}
 use Rattle.counting.specs.Verdict.{deviation, columnDeviation, pairDeviation, columnsFault, pairsFault, tableVerdict, differenceDeviation, matrixVerdict}
 use Rattle.counting.specs.GeneratorVerdict.{combinesToZero, dependence, generatorFault, generatorVerdict}
@@ -108,5 +109,5 @@ examples =
     ∷ []
 
 pub starred : map (λ (e : Example). computed (e .asked)) examples ≡ map (λ (e : Example). e .expected) examples
-unfolding bind flatMap sum count every first firstAfter firstPair fieldSum fieldProduct digits numeral tableOf shows times matrixOf difference rowDifference differences generatorOf width from factorColumns columnsOf combination deviation columnDeviation pairDeviation columnsFault pairsFault tableVerdict differenceDeviation matrixVerdict combinesToZero dependence generatorFault generatorVerdict houseTable houseOf house101 allowed numbers tableBody matrixBody generatorBody readIngredient readNaming readSum readMerge readSplit readStep readParts readOrder ingredientRange rangeOf fromSources takeStep smallEnough columnElements values fieldTable levelSum rowsOf serving adjoinedTable summedWith sumPlace sumSources sumLevels sumEntry sumValue sumStep sumFits mergePlace mergeSources mergeLevels mergedLevel mergeValue mergeStep mergeFits memberSum memberFaultAt memberFault numbered asTable asMatrix asGenerator listed tableNamed matrixNamed generatorNamed matricesNamed adjoinedNamed proceed provided fieldStep opening operation fits wrongMember applied sized afterSums operate firstStep laterStep laterSteps allSteps rangeRefusal tableRefusal matrixRefusal generatorRefusal ingredientRefusal ingredientsRefusal unless readOutcome outcome
+unfolding bind flatMap sum count every first firstAfter firstPair fieldSum fieldProduct digits numeral tableOf shows times matrixOf differenceIn levelDifference rowDifference differences generatorOf width from factorColumns columnsOf combination deviation columnDeviation pairDeviation columnsFault pairsFault tableVerdict differenceDeviation matrixVerdict combinesToZero dependence generatorFault generatorVerdict houseTable houseOf house101 allowed numbers tableBody matrixBody generatorBody readIngredient readNaming readSum readMerge readSplit readStep readParts readOrder ingredientRange rangeOf fromSources takeStep smallEnough columnElements values fieldTable levelSum rowsOf serving adjoinedTable summedWith sumPlace sumSources sumLevels sumEntry sumValue sumStep sumFits mergePlace mergeSources mergeLevels mergedLevel mergeValue mergeStep mergeFits memberSum memberFaultAt memberFault numbered asTable asMatrix asGenerator listed tableNamed matrixNamed generatorNamed matricesNamed adjoinedNamed proceed provided fieldStep opening operation fits wrongMember applied sized afterSums operate firstStep laterStep laterSteps allSteps rangeRefusal tableRefusal matrixRefusal generatorRefusal ingredientRefusal ingredientsRefusal unless readOutcome outcome
 starred = refl

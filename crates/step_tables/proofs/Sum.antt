@@ -20,6 +20,7 @@ use Rattle.finite.proofs.Sums.{sum-ext}
 use Rattle.finite.proofs.Counts.{count-ext, count-and, count-product, count-exchange, sum-passing}
 use Rattle.finite.proofs.Lists.{length-from}
 use Rattle.galois.specs.Laws.{AbelianGroup}
+use Rattle.galois.proofs.Levels.{levels}
 use Rattle.counting.specs.Matrix.{Matrix, MatrixInRange}
 use Rattle.counting.specs.Table.{Table, columns, levelsOf, Setting, shows, times, combinations, Apart, Settings, InRange, Even}
 use Rattle.step_tables.specs.Lists.{Distinct}
@@ -28,7 +29,7 @@ use Rattle.step_tables.specs.Sum.{levelSum, PassingMatrix, modulusOf, ro
 use Rattle.step_tables.proofs.Lists.{length-flatMap, mem-map, mem-flatMap, mem-from, distinct-append, distinct-map, distinct-flatMap, distinct-from}
 use Rattle.step_tables.proofs.Columns.{Choice, _at_, chosen, choices, Allowed, EvenChoices, swap-choices, no-settings, Sources, from-array, from-levels}
 use Rattle.step_tables.proofs.Separate.{Place, left, right, Differ, Placed, levelsAt, cellAt, Placing, asIs, lefts, rights, length-separate, settings-separate, combinations-separate, shows-separate}
-use Rattle.step_tables.proofs.Groups.{GroupDifferences, less, less-below, sum-is, same-less, levels-modulo, modulo-differences}
+use Rattle.step_tables.proofs.Groups.{GroupDifferences, less, less-below, sum-is, same-less, level-differences}
 
 -- the matrix that serves s levels is one of the list, and s is its p
 serving-mem : (Ds : List Matrix) (s : ℕ) (D : Matrix) → serving Ds s ≡ some D → List·Memᴰ D Ds × (D .modulus ≡ s)
@@ -474,12 +475,12 @@ pub sum-leaves : (Ds : List Matrix) (k : Option Table) (S : Table) → SumFits D
 sum-leaves Ds k S fits passing tables sheet =
     group-sum-leaves
     levelSum
-    levels-modulo
+    levels
     Ds
     (adjoinedTable (rowsOf Ds) k)
     S
     fits
     (λ D m. passing D m .in-range)
-    (λ D m. modulo-differences D (passing D m .in-range) (passing D m .differences))
+    (λ D m. level-differences D (passing D m .in-range) (passing D m .differences))
     (adjoined-array (rowsOf Ds) k tables)
     sheet

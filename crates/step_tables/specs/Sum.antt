@@ -4,18 +4,15 @@ use mathlib.Core.Path.{_≡_}
 use mathlib.Core.Bool.{Bool, cond, _&&_}
 use mathlib.Core.List.{List, [], _∷_, _++_, map, flatMap, List·Memᴰ}
 use mathlib.Core.Option.{Option, none, some}
-use Prim.Native.Nat.{ℕ, _+_, _*_, _/_, _%_}
+use Prim.Native.Nat.{ℕ, _*_, _/_, _%_}
 use lib.Dec.{eqb}
 use Rattle.finite.specs.Lists.{from}
 use Rattle.galois.specs.Arithmetic.{member}
+unfoldable pub use Rattle.galois.specs.Levels.{levelSum}
 use Rattle.counting.specs.Matrix.{Matrix, MatrixInRange, DifferenceMatrix}
 use Rattle.counting.specs.Table.{Table, columns, levelsOf}
 use Rattle.step_tables.specs.Lists.{Distinct, allOf, allDifferent}
 use Rattle.step_tables.specs.Sheet.{fromSources}
-
--- a plus b modulo p
-unfoldable pub levelSum : ℕ → ℕ → ℕ → ℕ
-levelSum p a b = (a + b) % p
 
 -- p
 abbrev pub modulusOf : Matrix → ℕ

@@ -1,9 +1,9 @@
--- Laws of SUM on bytes: sums of levels, and what the arrays tell of the matrices that serve a level count.
+-- Laws of SUM on bytes: what the arrays tell of the matrices that serve a level count.
 -- Assumes nothing.
-use mathlib.Core.Path.{_≡_, sym, _∙_, ap}
+use mathlib.Core.Path.{_≡_, _∙_, ap}
 use mathlib.Core.List.{List, [], _∷_}
 use Prim.Native.Nat.{ℕ, _+_, _*_, _-_, _/_, _%_, _≤_, _<_}
-use native.Mathlib.Nat.{mod-eq-of-lt, mod-eq-sub-mod, mod-lt, div-lt-iff-lt-mul, le-refl}
+use native.Mathlib.Nat.{mod-lt, div-lt-iff-lt-mul, le-refl}
 use native.Mathlib.Omega.{arith}
 use lib.Arith.{digits-lt}
 use lib.ListN.{length, getD, take, drop, length-append, length-map, replicate, replicate-append-replicate}
@@ -18,18 +18,6 @@ use Rattle.ingredients.proofs.Parts.{part-length, part-at}
 use Rattle.layout.specs.Bytes.{runOf}
 use Rattle.sum_bytes.specs.Summing.{EntriesStand, servedRow, summedCells, summedRun, RowStands, RunStands, SheetStands, builtRun}
 use Rattle.layout.proofs.Bytes.{run-length}
-
--- ---- the sum of two levels
-
-pub sum-small : (p a b : ℕ) → a + b < p → a + b ≡ levelSum p a b
-unfolding levelSum
-sum-small p a b h = sym (mod-eq-of-lt h)
-
-pub sum-large : (p a b : ℕ) → a < p → b < p → p ≤ a + b → a + b - p ≡ levelSum p a b
-unfolding levelSum
-sum-large p a b ha hb h =
-    let rest : a + b - p < p = omega arith in
-    sym (mod-eq-sub-mod h ∙ mod-eq-of-lt rest)
 
 -- ---- one byte again
 

@@ -1,5 +1,4 @@
 // One run of the sheet that step 3, SUM r, d1 .. dr, k, leaves, but for k's columns: the sums of a sheet run with a row of the matrices.
-ghost use mathlib.Core.Path.{_≡_};
 ghost use mathlib.Core.List.{map};
 ghost use Prim.Native.Nat.{_+_, _≤_, _<_};
 ghost use lib.ListN.{length};
@@ -8,19 +7,7 @@ ghost use Rattle.buffers.specs.Put.{Put};
 ghost use Rattle.step_tables.specs.Sum.{levelSum};
 ghost use Rattle.sum_bytes.specs.Summing.{RowStands, RunStands, summedRun};
 use buffers::put_byte;
-
-// The sum of two levels modulo p.
-fn level_sum(p: u8, a: u8, b: u16) -> u8
-    requires { ⌜ (a < p) × (b < p) ⌝ }
-    ensures { λ r. ⌜ r ≡ levelSum p a b ⌝ }
-{
-    let total = a as u16 + b;
-    if total < p as u16 {
-        total as u8
-    } else {
-        (total - p as u16) as u8
-    }
-}
+use group_sums::level_sum;
 
 // The sums of a level with each entry of a matrix row.
 fn put_sums(buf: &mut [u8], at: usize, p: u8, level: u8, row: &[u16]) -> usize

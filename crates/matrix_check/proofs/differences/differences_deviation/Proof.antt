@@ -1,9 +1,10 @@
 -- `differences_deviation` meets its contract: the counters hold the differences' counts, and past the differences they are zero.
 -- Assumes nothing.
 use mathlib.Core.Path.{_∙_, ap}
-use native.Mathlib.Nat.{le-trans, mod-lt}
+use native.Mathlib.Nat.{le-trans}
 use lib.Dec.{lit≤}
-use Rattle.counting.specs.Matrix.{matrixOf, differences, rowDifference, difference}
+use Rattle.galois.proofs.Levels.{level-difference-below}
+use Rattle.counting.specs.Matrix.{matrixOf, differences, rowDifference}
 use Rattle.counting.specs.Verdict.{differenceDeviation}
 use borrow.Author.Needs.{needs}
 use Rattle.tally.specs.Tally.{asDeviation, keysDeviation}
@@ -21,13 +22,13 @@ same-length : tie.Need-same-length
 same-length c = search needs
 
 returns : tie.Need-returns
-unfolding differenceDeviation differences keysDeviation matrixOf rowDifference difference
+unfolding differenceDeviation differences keysDeviation matrixOf rowDifference
 returns c =
     let start = c .before .before .before .before .before .before .before .before .before .before .before in
     let tallied = c .before .before .before .before .before .before .tally-differences .ensures in
     let found = c .before .before .first-deviation .ensures in (
       found .0 ∙ ap asDeviation (deviation-tallied _ tallied),
-      λ e. found .1 e (past-keys _ tallied (λ r h. mod-lt _ (le-trans (lit≤ tt) (start .pre .0 .modulus-from)))),
+      λ e. found .1 e (past-keys _ tallied (λ r h. level-difference-below _ _ _ (le-trans (lit≤ tt) (start .pre .0 .modulus-from)))),
     )
 
 pub differences-deviation-spec : {M : Type 1} → statement M

@@ -3,7 +3,7 @@
 use mathlib.Core.Path.{_≡_, refl, sym}
 use denote.Ref.{now}
 use Prim.Native.Nat.{ℕ, _+_, _-_, _*_, _≤_, _<_}
-use native.Mathlib.Nat.{zero-mul, le-trans, le-antisymm, lt-of-lt-of-le, mod-lt, mul-le-mul}
+use native.Mathlib.Nat.{zero-mul, le-trans, le-antisymm, lt-of-lt-of-le, mul-le-mul}
 use native.Mathlib.Omega.{arith}
 use borrow.Author.Needs.{needs}
 use lib.Arith.{digits-lt}
@@ -11,7 +11,9 @@ use lib.Dec.{lit≤}
 use lib.ListN.{length, getD}
 use Rattle.finite.proofs.Tabulated.{looked-up}
 use Rattle.finite.proofs.Fits.{place-below, run-more, run-end, offset-fits}
-use Rattle.counting.specs.Matrix.{matrixOf, difference, rowDifference, MatrixInRange}
+use Rattle.galois.specs.Levels.{levelDifference}
+use Rattle.galois.proofs.Levels.{level-difference-below}
+use Rattle.counting.specs.Matrix.{matrixOf, rowDifference, MatrixInRange}
 use Rattle.tally.specs.Tally.{Tallied}
 use Rattle.tally.proofs.Tallies.{tallied-none, tallied-more, counter-fits}
 use Rattle.matrix_check.proofs.differences.tally_differences.Statement.{statement}
@@ -55,10 +57,9 @@ unfolding MatrixInRange matrixOf
 second-below c =
     rw (c .before .loop .inv .1) (c .before .before .pre .0 .in-range _ _ (c .loop-test .taken) (c .before .before .pre .1 .0 .1))
 
-counted : (c : tie.In-loop Inv-loop μ-loop) (x y : ℕ) → difference (c .before .before .args .p) x y < 4096
-unfolding difference
+counted : (c : tie.In-loop Inv-loop μ-loop) (x y : ℕ) → levelDifference (c .before .before .args .p) x y < 4096
 counted c x y =
-    lt-of-lt-of-le (mod-lt _ (le-trans (lit≤ tt) (c .before .before .pre .0 .modulus-from)))
+    lt-of-lt-of-le (level-difference-below _ _ _ (le-trans (lit≤ tt) (c .before .before .pre .0 .modulus-from)))
     (le-trans (c .before .before .pre .0 .modulus-to) (lit≤ tt))
 
 -- where the difference of the two entries stands
@@ -73,10 +74,10 @@ key-found : (c : tie.In-loop Inv-loop μ-loop)
     → getD (now (c .before .before .args .differences))
     (getD (now (c .before .before .args .entries)) (c .before .loop .start + c .before .before .args .first) 0 * c .before .before .args .p
     + getD (now (c .before .before .args .entries)) (c .before .loop .start + c .before .before .args .second) 0) 0
-    ≡ difference (c .before .before .args .p)
+    ≡ levelDifference (c .before .before .args .p)
     (getD (now (c .before .before .args .entries)) (c .before .loop .start + c .before .before .args .first) 0)
     (getD (now (c .before .before .args .entries)) (c .before .loop .start + c .before .before .args .second) 0)
-key-found c = looked-up (difference (c .before .before .args .p)) (c .before .before .args .p) (c .before .before .pre .1 .1 .0) (first-below c) (second-below c)
+key-found c = looked-up (levelDifference (c .before .before .args .p)) (c .before .before .args .p) (c .before .before .pre .1 .1 .0) (first-below c) (second-below c)
 
 -- below the number of counters
 key-counted : (c : tie.In-loop Inv-loop μ-loop)
