@@ -6,9 +6,9 @@
     python3 catalogue.py --waiting    its table of those that wait for a request
     python3 catalogue.py --absent     its table of examples that have no steps here
 
-What an array needs beyond 01 follows from its steps: K2 for a SUM over GF(4), K6 for a table on the
-other side, and "whole" for a replacement of seven or fifteen columns, which MERGE does not make. A
-"whole" array enters an order as a table for TAKE.
+What an array needs beyond the planner's steps follows from its own: K6 for a table on the other side,
+and "whole" for a replacement of seven or fifteen columns, which MERGE does not make. A "whole" array
+enters an order as a table for TAKE.
 """
 
 import re
@@ -114,11 +114,9 @@ def text_of(lines):
 
 # The catalogue.
 
-def needs_of(steps, known):
-    """What the steps take beyond document 01."""
-    matrices = [known[name] for step in steps if isinstance(step, (Sum, OtherSide)) for name in step.matrices]
-    found = {"K2": any(matrix.p == 4 for matrix in matrices),
-             "K6": any(isinstance(step, OtherSide) for step in steps),
+def needs_of(steps):
+    """What the steps take beyond the planner's."""
+    found = {"K6": any(isinstance(step, OtherSide) for step in steps),
              "whole": any(isinstance(step, Replace) for step in steps)}
     return [need for need, there in found.items() if there]
 
@@ -130,7 +128,7 @@ def catalogue():
     for entry in entries():
         sheet = carry_all(entry.steps, known)
         known.setdefault(entry.name, sheet)
-        needs = needs_of(entry.steps, known)
+        needs = needs_of(entry.steps)
         steps = [Take(entry.name)] if needs == ["whole"] else entry.steps
         file = file_name(entry, taken) if needs in ([], ["whole"]) else None
         taken.add(file)
@@ -146,9 +144,9 @@ def failure_of(name, sheet):
 
 
 def uneven_matrices():
-    """The names of matrices that are no difference matrices modulo p; those over GF(4) are left to verify.py."""
-    matrices = {name: item for name, item in names().items() if isinstance(item, Matrix) and item.p != 4}
-    return [name for name, (p, rows) in matrices.items() if matrix_failure(rows, p, lambda x, y: (x - y) % p)]
+    """The names of matrices that are no difference matrices."""
+    matrices = {name: item for name, item in names().items() if isinstance(item, Matrix)}
+    return [name for name, (p, rows) in matrices.items() if matrix_failure(rows, p)]
 
 
 # Words.
@@ -234,16 +232,14 @@ def table():
     return table_lines(["paper and number", "file", "runs", "levels", "steps", "spare", "saturated"], rows)
 
 
-WHY = {"K2": "D 12,12;4 passes over GF(4) and not modulo 4",
-       "K6": "a table on the other side is step 6, which 01 does not have"}
+WHY = {"K6": "a table on the other side is step 6, which 01 does not have"}
 
 
 def waiting_row(array):
-    """A step of kind 6 is refused when the list is read, and a matrix when it is counted, later."""
+    """A step of kind 6 is refused when the list is read."""
     place, name, steps = array.entry
     why = "; ".join(WHY[need] for need in array.needs)
-    refused = "2" if "K6" in array.needs else "6"
-    return [place, *size_cells(name), steps_in_words(steps), together(array.needs), why, refused]
+    return [place, *size_cells(name), steps_in_words(steps), together(array.needs), why, "2"]
 
 
 def waiting():

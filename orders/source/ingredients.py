@@ -7,7 +7,7 @@ as they are built (catalogue.py), so that a later order can adjoin them.
 from itertools import product
 from pathlib import Path
 
-from fields import field_product
+from fields import field_product, group_sum
 from steps import Generator, Matrix, Table, summed
 from verify import read_blocks
 
@@ -59,7 +59,7 @@ def without_zeros(matrix):
 def kronecker_sum(left, right):
     """The Kronecker sum of two matrices of one p (000, section 2)."""
     p = left.p
-    return Matrix(p, [[(a + b) % p for a in upper for b in lower] for upper in left.rows for lower in right.rows])
+    return Matrix(p, [[group_sum(p, a, b) for a in upper for b in lower] for upper in left.rows for lower in right.rows])
 
 
 def symbol(q, x):
@@ -151,7 +151,7 @@ def read():
     kinds = {"table": lambda rest, rows: Table(rest, rows), "matrix": lambda rest, rows: Matrix(rest[0], rows),
              "generator": lambda rest, rows: Generator(rest[0], rest[1:], rows)}
     blocks = read_blocks((SOURCE / "arrays.txt").read_text())
-    return Known({name: kinds[kind](sizes[2:], rows) for _, kind, name, sizes, rows in blocks})
+    return Known({name: kinds[kind](sizes[2:], rows) for kind, name, sizes, rows in blocks})
 
 
 def add_tables(known):

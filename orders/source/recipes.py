@@ -178,10 +178,11 @@ def example_12():
 # 001.
 
 def mixed_sheets():
-    """Section 2's formula with the ingredients of Theorem 1's three examples."""
+    """Section 2's formula with the ingredients of Theorem 1's three examples, and of Corollary 1.1 for p = 2 and r = 3."""
     return [("L216(12x6^6x3^72)", [Take("L18(6x3^6)"), Sum(("D_12_6_6", "D_12_12_3"), "L12(12)")]),
             ("L216(12x3^84x2^12)", [Take("L18(2x3^7)"), Sum(("D_12_12_3", "H_12_002"), "L12(12)")]),
-            ("L144(12x3^12x2^48)", [Take("L12(3x2^4)"), Sum(("D_12_12_3", "H_12_002"), "L12(12)")])]
+            ("L144(12x3^12x2^48)", [Take("L12(3x2^4)"), Sum(("D_12_12_3", "H_12_002"), "L12(12)")]),
+            ("L96(12x4^12x2^48)", [Field("L8(4x2^4) over GF(2)"), Sum(("D_12_12_4", "H_12_002"), "L12(12)")])]
 
 
 def theorem_1():

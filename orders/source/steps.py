@@ -8,7 +8,7 @@ columns, as 000 does in its Class C; neither 01 nor a request of 02 has it.
 from itertools import product
 from typing import NamedTuple
 
-from fields import field_sum, row_times
+from fields import group_sum, row_times
 
 
 class Table(NamedTuple):
@@ -80,12 +80,12 @@ def number_of(base, digits):
 
 
 def summed(sheet, matrices, k):
-    """SUM. With p = 4 the sum is that of GF(4), as request K2 has it; no matrix here is made for modulo 4."""
+    """SUM. The sum is that of the field for p = 4, 8 and 9 and modulo p for every other p (request K2)."""
     of = {matrix.p: matrix.rows for matrix in matrices}
     assert len(of) == len(matrices) and set(of) == set(sheet.levels)
     assert all(len(rows) == len(k.runs) for rows in of.values())
     levels = [p for p in sheet.levels for _ in of[p][0]]
-    runs = [[field_sum(p, x, entry) for p, x in zip(sheet.levels, run) for entry in of[p][y]] + k.runs[y]
+    runs = [[group_sum(p, x, entry) for p, x in zip(sheet.levels, run) for entry in of[p][y]] + k.runs[y]
             for run in sheet.runs for y in range(len(k.runs))]
     return Table(levels + k.levels, runs)
 

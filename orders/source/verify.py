@@ -1,33 +1,32 @@
-"""Checks every block of arrays.txt by plain counting, with the definitions of document 01.
+"""Checks every block of arrays.txt by plain counting, with the definitions of document 01 and request K2.
 
 A table passes when each level of each column stands in runs / s runs and each pair of levels
 of every two columns in runs / (s * t) runs. A matrix passes when, for every two columns, the
-differences modulo p, first minus second, take each value rows / p times. Columns are named
-from 1, levels and differences from 0. A matrix that its comment places over GF(4), and that
-fails modulo 4, is counted again with the differences of GF(4), which are exclusive ors.
-A generator passes when no coefficients but all zeros combine the columns of two factors to zero.
+differences, first minus second, take each value rows / p times; they are those of the field for
+p = 4, 8 and 9, and modulo p for every other p. Columns are named from 1, levels and differences
+from 0. A generator passes when no coefficients but all zeros combine the columns of two factors
+to zero.
 
-The last line sums up, and the exit status is 0 when every block passes, or, where its comment
-says that it does not pass modulo p, fails modulo p and passes over GF(4).
+The last line sums up, and the exit status is 0 when every block passes.
 """
 
 import sys
 from itertools import combinations, product
 from pathlib import Path
 
-from fields import row_times
+from fields import group_difference, row_times
 
 
 def read_blocks(text):
-    """Yields (comments, kind, name, sizes, rows); sizes are the numbers after the name."""
-    comments, head, rows = [], None, []
+    """Yields (kind, name, sizes, rows); sizes are the numbers after the name. Lines that start with # are comments."""
+    head, rows = None, []
     for line in text.split("\n") + [""]:
         if line.startswith("#"):
-            comments.append(line[1:].strip())
-        elif line == "":
+            continue
+        if line == "":
             if head:
-                yield comments, head[0], head[1], [int(w) for w in head[2:]], rows
-            comments, head, rows = [], None, []
+                yield head[0], head[1], [int(w) for w in head[2:]], rows
+            head, rows = None, []
         elif head is None:
             head = line.split(" ")
         else:
@@ -65,10 +64,10 @@ def table_failure(runs, levels):
     return None
 
 
-def matrix_failure(rows, p, difference):
+def matrix_failure(rows, p):
     """The first pair of columns whose differences are uneven, or None."""
     for a, b in combinations(range(len(rows[0])), 2):
-        differences = [difference(row[a], row[b]) for row in rows]
+        differences = [group_difference(p, row[a], row[b]) for row in rows]
         for d in range(p):
             times = differences.count(d)
             if p * times != len(rows):
@@ -107,23 +106,17 @@ def failure_of(kind, rest, rows):
     if kind == "table":
         return table_failure(rows, rest)
     if kind == "matrix":
-        return matrix_failure(rows, rest[0], lambda x, y: (x - y) % rest[0])
+        return matrix_failure(rows, rest[0])
     return generator_failure(rows, rest[0], rest[1:])
 
 
-def check(comments, kind, name, sizes, rows):
-    """Returns the line to print and whether the block is as its comment says."""
+def check(kind, name, sizes, rows):
+    """Returns the line to print and whether the block passes."""
     row_count, column_count, rest = sizes[0], sizes[1], sizes[2:]
     if not header_fits(kind, column_count, rest):
         return f"{name} fails: bad header", False
     limits = limits_of(kind, column_count, rest)
-    failure = shape_failure(rows, row_count, len(limits), limits)
-    if failure is None:
-        failure = failure_of(kind, rest, rows)
-        if failure and "over GF(4), does not pass modulo 4" in comments:
-            over_field = matrix_failure(rows, rest[0], lambda x, y: x ^ y)
-            verdict = f"fails too: {over_field}" if over_field else "passes"
-            return f"{name} fails modulo 4: {failure}; over GF(4) it {verdict}", over_field is None
+    failure = shape_failure(rows, row_count, len(limits), limits) or failure_of(kind, rest, rows)
     return (f"{name} fails: {failure}", False) if failure else (f"{name} passes", True)
 
 
@@ -132,9 +125,9 @@ def main():
     results = [check(*block) for block in read_blocks(text)]
     for line, _ in results:
         print(line)
-    as_said = sum(ok for _, ok in results)
-    print(f"{len(results)} blocks, {as_said} as their comments say")
-    return 0 if as_said == len(results) else 1
+    passing = sum(passes for _, passes in results)
+    print(f"{len(results)} blocks, {passing} pass")
+    return 0 if passing == len(results) else 1
 
 
 if __name__ == "__main__":

@@ -60,7 +60,7 @@ fn check_matrix(ingredient_number: usize, matrix: &Matrix) -> Result<(), Answer>
             let times = matrix
                 .rows
                 .iter()
-                .filter(|row| (row[b] + difference) % p == row[a])
+                .filter(|row| field::matrix_sum(p, row[b], difference) == row[a])
                 .count();
             if p * times != matrix.rows.len() {
                 return Err(refused(

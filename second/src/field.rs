@@ -1,4 +1,5 @@
-//! The fields of 2, 3, 4, 5, 7, 8 and 9 elements, worked out from what their elements stand for.
+//! The fields of 2, 3, 4, 5, 7, 8 and 9 elements, worked out from what their elements stand for, and
+//! which sum goes with a matrix.
 
 /// a + b in the field of s elements.
 pub fn sum(s: usize, a: usize, b: usize) -> usize {
@@ -7,6 +8,15 @@ pub fn sum(s: usize, a: usize, b: usize) -> usize {
         4 | 8 => a ^ b,
         9 => (a % 3 + b % 3) % 3 + 3 * ((a / 3 + b / 3) % 3),
         _ => (a + b) % s,
+    }
+}
+
+/// The sum that goes with a matrix of p and with the columns of p levels that it serves; 02, K2. It
+/// is the field's for 4, 8 and 9 and modulo p for every other p, for 16, 25 or 27 too.
+pub fn matrix_sum(p: usize, a: usize, b: usize) -> usize {
+    match p {
+        4 | 8 | 9 => sum(p, a, b),
+        _ => (a + b) % p,
     }
 }
 

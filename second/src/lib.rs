@@ -1,11 +1,11 @@
-//! A second implementation of the planner of document 01 with request K1 of document 02, written
-//! from these documents alone and as plainly as possible, to be compared with the proved one. "01"
-//! and "02" in comments are those documents.
+//! A second implementation of the planner of document 01 with requests K1 and K2 of document 02,
+//! written from these documents alone and as plainly as possible, to be compared with the proved one.
+//! "01" and "02" in comments are those documents.
 //!
 //! - `order`: question 2, from numbers to an order;
 //! - `counting`: question 4, does an ingredient pass;
 //! - `steps`: questions 5 to 8 and what each step leaves;
-//! - `field`: sums and products of the seven fields;
+//! - `field`: sums and products of the seven fields, and the sum that goes with a matrix;
 //! - `text`: words in, printed runs out;
 //! - `maker`: random orders for the vectors and the tests; the planner does not use it;
 //! - `records`: orders with their answers as stored texts; the planner does not use it.

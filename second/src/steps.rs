@@ -162,7 +162,7 @@ fn sum(
             let mut run = Vec::new();
             for (j, matrix) in server.iter().enumerate() {
                 for c in 0..matrix.columns {
-                    run.push((sheet_run[j] + matrix.rows[y][c]) % matrix.p);
+                    run.push(field::matrix_sum(matrix.p, sheet_run[j], matrix.rows[y][c]));
                 }
             }
             run.extend(&k.runs[y]);

@@ -194,20 +194,40 @@ fn kind_of_spare(record: &Record) -> String {
     }
 }
 
-/// The steps of a filled order: the kind of each, FIELD with its s and MERGE with its p.
-fn kinds_of_steps(order: &str) -> Vec<String> {
-    let order = order::read(&scan(order.as_bytes()).unwrap()).unwrap();
-    let kind = |step: &Step| match step {
-        Step::Take { .. } => "TAKE".to_string(),
+fn order_of(record: &Record) -> order::Order {
+    order::read(&scan(record.order.as_bytes()).unwrap()).unwrap()
+}
+
+/// The steps of a filled order: the kind of each, FIELD with its s and MERGE with its p. A SUM is there
+/// again for each of its matrices with 3 columns or more, with p.
+fn kinds_of_steps(order: &order::Order) -> Vec<String> {
+    let wide = |d: &usize| match &order.ingredients[d - 1] {
+        Ingredient::Matrix(matrix) if matrix.columns > 2 => Some(format!("SUM {}", matrix.p)),
+        _ => None,
+    };
+    let kinds = |step: &Step| match step {
+        Step::Take { .. } => vec!["TAKE".to_string()],
         Step::Field { generator } => match &order.ingredients[generator - 1] {
-            Ingredient::Generator(generator) => format!("FIELD {}", generator.s),
+            Ingredient::Generator(generator) => vec![format!("FIELD {}", generator.s)],
             other => panic!("{other:?}"),
         },
-        Step::Sum { .. } => "SUM".to_string(),
-        Step::Merge { p, .. } => format!("MERGE {p}"),
-        Step::Split { .. } => "SPLIT".to_string(),
+        Step::Sum { matrices, .. } => {
+            let wide = matrices.iter().filter_map(wide);
+            ["SUM".to_string()].into_iter().chain(wide).collect()
+        }
+        Step::Merge { p, .. } => vec![format!("MERGE {p}")],
+        Step::Split { .. } => vec!["SPLIT".to_string()],
     };
-    order.steps.iter().map(kind).collect()
+    order.steps.iter().flat_map(kinds).collect()
+}
+
+/// Of an order that is refused as 6: the p of the matrix.
+fn kind_of_matrix(record: &Record) -> String {
+    let refusal = numbers(record.answer[0].strip_prefix("refused ").unwrap());
+    match &order_of(record).ingredients[refusal[1] - 1] {
+        Ingredient::Matrix(matrix) => format!("refused 6 with p = {}", matrix.p),
+        other => panic!("{other:?}"),
+    }
 }
 
 fn refusals() -> impl Iterator<Item = String> {
@@ -232,9 +252,12 @@ fn vectors_reach_everything_often() {
         let kind = kind_of_answer(record);
         if kind == "filled" {
             *times.entry(kind_of_spare(record)).or_default() += 1;
-            for step in kinds_of_steps(record.order) {
+            for step in kinds_of_steps(&order_of(record)) {
                 *times.entry(step).or_default() += 1;
             }
+        }
+        if kind == "refused 6" {
+            *times.entry(kind_of_matrix(record)).or_default() += 1;
         }
         *times.entry(kind).or_default() += 1;
     }
@@ -244,8 +267,13 @@ fn vectors_reach_everything_often() {
     wanted.extend(refusals());
     wanted.extend([2, 3, 4, 5, 7, 8, 9].map(|s| format!("FIELD {s}")));
     wanted.extend([2, 3, 5, 7].map(|p| format!("MERGE {p}")));
+    wanted.extend([4, 8, 9].map(|p| format!("SUM {p}")));
     for kind in wanted {
         assert!(times.get(&kind) > Some(&40), "{kind}: {times:?}");
+    }
+    for p in [4, 8, 9] {
+        let kind = format!("refused 6 with p = {p}");
+        assert!(times.get(&kind) > Some(&10), "{kind}: {times:?}");
     }
     assert!(vectors.len() > 2_000);
     assert!(times["filled"] > vectors.len() * 3 / 10);

@@ -1,4 +1,4 @@
--- Difference matrices: document 01, "What is counted", after 000.
+-- Difference matrices: document 01, "What is counted", after 000, with the differences of 02, K2.
 use mathlib.Core.Path.{_≡_}
 use Prim.Native.Nat.{ℕ, _+_, _*_, _<_}
 use mathlib.Core.List.{List}

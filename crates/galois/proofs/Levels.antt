@@ -1,18 +1,20 @@
--- In any abelian group a difference is what, added to the second, gives the first. The sums modulo p make such a group.
--- Assumes nothing.
+-- In any abelian group a difference is what, added to the second, gives the first. The sums that go with p make such a group: those of the fields of
+-- 4, 8 and 9 elements, and those modulo p for every other p. Assumes nothing.
 use mathlib.Core.Path.{_≡_, refl, sym, _∙_, ap, subst, subst⁻¹}
-use mathlib.Core.Bool.{Bool, true, false, cond}
+use mathlib.Core.Bool.{Bool, true, false, cond, _||_}
 use mathlib.Core.Logic.{⊎-elim}
-use Prim.Native.Nat.{ℕ, zero, suc, _-_, _≤_, _<_}
-use native.Mathlib.Nat.{eq-or-lt-of-le, le-of-suc-le-suc, not-suc-le-zero}
+use Prim.Native.Nat.{ℕ, zero, suc, _+_, _-_, _%_, _≤_, _<_}
+use native.Mathlib.Nat.{eq-or-lt-of-le, le-of-suc-le-suc, not-suc-le-zero, mod-lt, mod-eq-of-lt, mod-add-mod, add-mod-right}
 use native.Mathlib.Omega.{arith}
 use borrow.Author.Tests.{eq-eqb}
 use lib.Dec.{T, eqb}
-use mir.Facts.{eqb-yes}
+use mir.Facts.{or-yes, eqb-yes}
 use Rattle.finite.proofs.Tests.{eqb-agree}
-use Rattle.galois.specs.Levels.{find, differenceIn, levelSum, levelDifference}
+use Rattle.galois.specs.Arithmetic.{fieldSize, fieldSum}
+use Rattle.galois.specs.Levels.{find, differenceIn, overField, levelSum, levelDifference}
 use Rattle.galois.specs.Laws.{AbelianGroup}
 use Rattle.galois.proofs.Derived.{subtract-add, cancel-right}
+use Rattle.galois.proofs.Fields.{field}
 use Rattle.galois.proofs.Modulo.{modulo}
 
 -- ---- what is found
@@ -72,9 +74,29 @@ module _ {n : ℕ} {plus : ℕ → ℕ → ℕ} (group : AbelianGroup n plus) {a
 
 -- ---- the group that goes with p
 
+-- what holds of 4, 8 and 9 holds of each p whose sums are a field's
+pub over-each : (P : ℕ → Type 0) → P 4 → P 8 → P 9 → (p : ℕ) → T (overField p) → P p
+unfolding overField
+over-each P four eight nine p over =
+    ⊎-elim
+    (λ t. ⊎-elim (is four) (is eight) (or-yes (eqb p 4) (eqb p 8) t))
+    (is nine)
+    (or-yes (eqb p 4 || eqb p 8) (eqb p 9) over)
+  where
+    is : {n : ℕ} → P n → T (eqb p n) → P p
+    is {n} holds e = let same : p ≡ n = eqb-yes e in subst⁻¹ P same holds
+
+pub over-size : (p : ℕ) → T (overField p) → T (fieldSize p)
+unfolding fieldSize
+over-size = over-each (λ p. T (fieldSize p)) tt tt tt
+
 pub levels : (p : ℕ) → 0 < p → AbelianGroup p (levelSum p)
 unfolding levelSum
-levels = modulo
+levels p positive = pick (overField p) refl
+  where
+    pick : (over : Bool) → overField p ≡ over → AbelianGroup p (λ a b. cond over (fieldSum p a b) ((a + b) % p))
+    pick true e = field p (over-size p (subst⁻¹ T e tt)) .group
+    pick false e = modulo p positive
 
 -- for every p a difference is what, added to the second, gives the first
 pub level-restores : (p : ℕ) {a b : ℕ} → a < p → b < p → levelSum p (levelDifference p a b) b ≡ a
@@ -84,3 +106,26 @@ level-restores p ha hb = difference-restores (levels p (omega arith)) ha hb
 pub level-difference-below : (p a b : ℕ) → 0 < p → levelDifference p a b < p
 unfolding levelDifference
 level-difference-below p a b h = difference-below (levelSum p) a b h
+
+module _ (p a b : ℕ) where
+  pub sum-over : overField p ≡ true → levelSum p a b ≡ fieldSum p a b
+  unfolding levelSum
+  sum-over e = rw e refl
+
+  -- "Every other p stays modulo p."
+  pub sum-modulo : overField p ≡ false → levelSum p a b ≡ (a + b) % p
+  unfolding levelSum
+  sum-modulo e = rw e refl
+
+  pub difference-modulo : overField p ≡ false → a < p → b < p → levelDifference p a b ≡ (a + (p - b)) % p
+  unfolding levelDifference levelSum
+  difference-modulo e ha hb =
+      difference-only
+      (levels p (omega arith))
+      ha
+      hb
+      (mod-lt (a + (p - b)) (omega arith))
+      (rw e (mod-add-mod (a + (p - b)) p b ∙ ap (λ (n : ℕ). n % p) (whole ha hb) ∙ add-mod-right a p ∙ mod-eq-of-lt ha))
+    where
+      whole : a < p → b < p → a + (p - b) + b ≡ a + p
+      whole h k = omega arith

@@ -1,5 +1,5 @@
 -- The laws of an abelian group and of a field whose elements are the numbers below n, as records that proofs take as a parameter.
--- Document 01, "What is counted": differences modulo p, and the fields of a generator.
+-- Document 01, "What is counted": the differences of a matrix, and the fields of a generator.
 -- Assumes nothing.
 use mathlib.Core.Path.{_≡_}
 use Prim.Native.Nat.{ℕ, _<_}

@@ -69,7 +69,7 @@ fn difference_matrices() {
     report_matrix(b"D 10,10;5", &matrices::D_10_10_5, 10, 10, 5);
     report_matrix(b"H 12", &matrices::H_12, 12, 12, 2);
     report_matrix(b"D 12,12;3", &matrices::D_12_12_3, 12, 12, 3);
-    report_matrix(b"D 12,12;4 modulo 4", &matrices::D_12_12_4, 12, 12, 4);
+    report_matrix(b"D 12,12;4", &matrices::D_12_12_4, 12, 12, 4);
     report_matrix(b"D 12,6;6", &matrices::D_12_6_6, 12, 6, 6);
     report_matrix(b"D 14,14;7", &matrices::D_14_14_7, 14, 14, 7);
     report_matrix(b"D 30,30;3", &matrices::D_30_30_3, 30, 30, 3);

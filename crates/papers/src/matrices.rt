@@ -66,7 +66,7 @@ pub const D_12_12_3: [u8; 12 * 12] = *b"\
     022122110101\
     020111101012";
 
-// D 12,12;4: 003, Appendix, with 0 1 2 3 for 00 01 10 11. It is a difference matrix over GF(4), and none modulo 4.
+// D 12,12;4: 003, Appendix, with 0 1 2 3 for 00 01 10 11. Its differences are those of GF(4), as 02, K2 has them; modulo 4 it would not pass.
 pub const D_12_12_4: [u8; 12 * 12] = *b"\
     000000000000\
     000111333222\

@@ -1,4 +1,5 @@
--- The starred examples of document 01, and the one that it prints, as cases of one table: what the definitions give is what 01 says. Computed.
+-- The starred examples of document 01, the one that it prints and 02's figures, as cases of one table: what the definitions give is what they say.
+-- Computed.
 -- Assumes nothing.
 use mathlib.Core.Path.{_≡_, refl}
 use mathlib.Core.List.{List, [], _∷_, map, flatMap}
@@ -10,7 +11,7 @@ use Rattle.finite.specs.Digits.{digits, numeral}
 use Rattle.finite.specs.Lists.{from}
 use Rattle.galois.specs.Arithmetic.{fieldSum, fieldProduct}
 use Rattle.galois.specs.Combination.{combination}
-use Rattle.galois.specs.Levels.{differenceIn, levelDifference}
+use Rattle.galois.specs.Levels.{differenceIn, overField, levelDifference}
 use Rattle.counting.specs.Table.{Table, columns, tableOf, shows, times}
 use Rattle.counting.specs.Matrix.{matrixOf, rowDifference, differences}
 use Rattle.counting.specs.Generator.{generatorOf, width, factorColumns, columnsOf}
@@ -104,10 +105,16 @@ examples =
     ∷ (order (0 ∷ 2 ∷ 1 ∷ 101 ∷ 4 ∷ 2 ∷ 1 ∷ 1 ∷ 2 ∷ []) gives refusal (9 ∷ 2 ∷ 0 ∷ 0 ∷ 0 ∷ 0 ∷ 0 ∷ []))
     -- the printed example: TAKE 101, MERGE 2 on 1 2 3
     ∷ (order (0 ∷ 2 ∷ 1 ∷ 101 ∷ 4 ∷ 2 ∷ 1 ∷ 2 ∷ 3 ∷ []) gives runTable (4 ∷ []) ((0 ∷ []) ∷ (1 ∷ []) ∷ (2 ∷ []) ∷ (3 ∷ []) ∷ []))
+    -- 02, K2: rows 0000, 0123, 0231, 0312 with p = 4 pass; the last run adds 3 to 0312 in GF(4)
+    ∷ (lastRun (2 ∷ 1 ∷ 4 ∷ 1 ∷ 4 ∷ 0 ∷ 1 ∷ 2 ∷ 3 ∷ 2 ∷ 4 ∷ 4 ∷ 4 ∷ 0 ∷ 0 ∷ 0 ∷ 0 ∷ 0 ∷ 1 ∷ 2 ∷ 3 ∷ 0 ∷ 2 ∷ 3 ∷ 1 ∷ 0 ∷ 3 ∷ 1 ∷ 2 ∷ 2 ∷ 1 ∷ 1 ∷ 3 ∷ 1 ∷ 2 ∷ 1 ∷ [])
+    gives run (3 ∷ 0 ∷ 2 ∷ 1 ∷ 3 ∷ []))
+    -- rows 00, 01, .., 07, 07 with p = 9: in GF(9) 0 - 8 is 4
+    ∷ (order (1 ∷ 2 ∷ 9 ∷ 2 ∷ 9 ∷ 0 ∷ 0 ∷ 0 ∷ 1 ∷ 0 ∷ 2 ∷ 0 ∷ 3 ∷ 0 ∷ 4 ∷ 0 ∷ 5 ∷ 0 ∷ 6 ∷ 0 ∷ 7 ∷ 0 ∷ 7 ∷ 1 ∷ 1 ∷ 101 ∷ [])
+    gives refusal (6 ∷ 1 ∷ 1 ∷ 2 ∷ 4 ∷ 0 ∷ 0 ∷ []))
     -- the empty list
     ∷ (order [] gives refusal (2 ∷ 0 ∷ 0 ∷ 0 ∷ 0 ∷ 0 ∷ 0 ∷ []))
     ∷ []
 
 pub starred : map (λ (e : Example). computed (e .asked)) examples ≡ map (λ (e : Example). e .expected) examples
-unfolding bind flatMap sum count every first firstAfter firstPair fieldSum fieldProduct digits numeral tableOf shows times matrixOf differenceIn levelDifference rowDifference differences generatorOf width from factorColumns columnsOf combination deviation columnDeviation pairDeviation columnsFault pairsFault tableVerdict differenceDeviation matrixVerdict combinesToZero dependence generatorFault generatorVerdict houseTable houseOf house101 allowed numbers tableBody matrixBody generatorBody readIngredient readNaming readSum readMerge readSplit readStep readParts readOrder ingredientRange rangeOf fromSources takeStep smallEnough columnElements values fieldTable levelSum rowsOf serving adjoinedTable summedWith sumPlace sumSources sumLevels sumEntry sumValue sumStep sumFits mergePlace mergeSources mergeLevels mergedLevel mergeValue mergeStep mergeFits memberSum memberFaultAt memberFault numbered asTable asMatrix asGenerator listed tableNamed matrixNamed generatorNamed matricesNamed adjoinedNamed proceed provided fieldStep opening operation fits wrongMember applied sized afterSums operate firstStep laterStep laterSteps allSteps rangeRefusal tableRefusal matrixRefusal generatorRefusal ingredientRefusal ingredientsRefusal unless readOutcome outcome
+unfolding bind flatMap sum count every first firstAfter firstPair fieldSum fieldProduct digits numeral tableOf shows times matrixOf differenceIn overField levelDifference rowDifference differences generatorOf width from factorColumns columnsOf combination deviation columnDeviation pairDeviation columnsFault pairsFault tableVerdict differenceDeviation matrixVerdict combinesToZero dependence generatorFault generatorVerdict houseTable houseOf house101 allowed numbers tableBody matrixBody generatorBody readIngredient readNaming readSum readMerge readSplit readStep readParts readOrder ingredientRange rangeOf fromSources takeStep smallEnough columnElements values fieldTable levelSum rowsOf serving adjoinedTable summedWith sumPlace sumSources sumLevels sumEntry sumValue sumStep sumFits mergePlace mergeSources mergeLevels mergedLevel mergeValue mergeStep mergeFits memberSum memberFaultAt memberFault numbered asTable asMatrix asGenerator listed tableNamed matrixNamed generatorNamed matricesNamed adjoinedNamed proceed provided fieldStep opening operation fits wrongMember applied sized afterSums operate firstStep laterStep laterSteps allSteps rangeRefusal tableRefusal matrixRefusal generatorRefusal ingredientRefusal ingredientsRefusal unless readOutcome outcome
 starred = refl

@@ -468,7 +468,7 @@ unfolding adjoinedTable
 adjoined-array M none all = record { even = no-columns-even 2 M; in-range = no-columns-in-range M }
 adjoined-array M (some K) all = all K refl
 
--- SUM as document 01 has it: levels are added modulo p, and k is a table or none
+-- SUM as document 01 has it, with the sums of 02, K2: those of a field or of a modulus, and k is a table or none
 pub sum-leaves : (Ds : List Matrix) (k : Option Table) (S : Table) → SumFits Ds (adjoinedTable (rowsOf Ds) k) S
     → ((D : Matrix) → List·Memᴰ D Ds → PassingMatrix D) → ((K : Table) → k ≡ some K → OrthogonalArray 2 K)
     → OrthogonalArray 2 S → OrthogonalArray 2 (sumStep levelSum Ds (adjoinedTable (rowsOf Ds) k) S)

@@ -66,7 +66,7 @@ unfoldable pub sumLevels : Table → SumSource → ℕ
 sumLevels K (summed j D c) = D .modulus
 sumLevels K (adjoined c) = levelsOf K c
 
--- the group's sum, for each p; `levelSum` is document 01's
+-- the group's sum, for each p; `levelSum` is 02's
 module _ (plus : ℕ → ℕ → ℕ → ℕ) where
   -- the level in sheet run i and matrix row y
   unfoldable pub sumEntry : Table → Table → ℕ → ℕ → SumSource → ℕ

@@ -8,10 +8,12 @@ ghost use Rattle.finite.specs.Lists.{from, AllBelow};
 ghost use Rattle.buffers.specs.Put.{Put};
 ghost use Rattle.ingredients.specs.Named.{tableIn, Legible};
 ghost use Rattle.step_tables.specs.Sheet.{SmallEnough};
+ghost use Rattle.group_sums.specs.Tables.{FieldTables};
 ghost use Rattle.layout.specs.Bytes.{Holds, Zeros};
 ghost use Rattle.layout.specs.Step.{Ready};
 ghost use Rattle.sum_bytes.specs.Summing.{EntriesStand, SheetStands, summedLevels, builtRun, nextSheet, Adjoins};
 use buffers::put_byte;
+use group_sums::field_tables;
 use ingredients::named::NamedTable;
 use layout::Size;
 use settling::settle;
@@ -45,11 +47,13 @@ fn put_runs(
     runs: usize,
     table: &[u8],
     levels: &[u8],
+    sums: &[u8],
 ) -> usize
     requires { ⌜ EntriesStand (now list) rows (now entries) (now widths) ⌝ }
     requires { ⌜ SheetStands (now table) (now levels) runs ⌝ }
     requires { ⌜ Legible (now list) k × Adjoins (tableIn (now list) k) rows ⌝ }
     requires { ⌜ (runs * rows ≤ 512) × (length (flatMap (builtRun (now list) (now entries) (now widths) rows (tableIn (now list) k) (now table) (now levels)) (from 0 (runs * rows))) ≤ length (now buf)) ⌝ }
+    requires { ⌜ FieldTables (now widths) 10 (now sums) ⌝ }
     ensures { λ r. ⌜ Put (now (buf .entry)) 0 (flatMap (builtRun (now (list .entry)) (now (entries .entry)) (now (widths .entry)) rows (tableIn (now (list .entry)) k) (now (table .entry)) (now (levels .entry))) (from 0 (runs * rows))) (now (buf .exit)) r ⌝ }
 {
     let total = runs * rows;
@@ -68,6 +72,7 @@ fn put_runs(
             row,
             levels,
             &table[start..end],
+            sums,
         );
         place = put_run(list, k, row, buf, place);
         r += 1;
@@ -138,6 +143,7 @@ pub fn build(
     let runs = size.runs;
     let m = size.columns;
     let used = runs * m;
+    let sums = field_tables(widths);
     let built = put_runs(
         scratch,
         list,
@@ -148,6 +154,7 @@ pub fn build(
         runs,
         table,
         &levels[..m],
+        &sums,
     );
     let mut counts = [0u8; 128];
     let columns = put_levels(&mut counts, list, k, &levels[..m], widths);

@@ -16,14 +16,17 @@ fn main() -> std::io::Result<()> {
     Ok(())
 }
 
-/// Counts: for steps and fields, how many were reached, and how many of them in filled orders.
+/// Counts: for steps, fields and matrices, how many were reached, and how many of them in filled
+/// orders.
 #[derive(Default)]
 struct Summary {
     answers: BTreeMap<u8, usize>,
+    refusing_matrices: BTreeMap<usize, usize>,
     steps: BTreeMap<&'static str, [usize; 2]>,
     refusing_steps: BTreeMap<(u8, &'static str), usize>,
     fields_checked: BTreeMap<usize, [usize; 2]>,
     fields_run: BTreeMap<usize, [usize; 2]>,
+    wide_sums: BTreeMap<usize, [usize; 2]>,
     merges: BTreeMap<usize, [usize; 2]>,
     numbers_in_list: Vec<usize>,
     cells_in_filled: Vec<usize>,
@@ -55,6 +58,10 @@ impl Summary {
                 count(&mut self.fields_checked, generator.s, filled);
             }
         }
+        if let (6, Some(Ingredient::Matrix(matrix))) = (number, order.ingredients[..checked].last())
+        {
+            *self.refusing_matrices.entry(matrix.p).or_default() += 1;
+        }
         let reached = match number {
             0 => order.steps.len(),
             8..=11 => details[0] as usize,
@@ -71,7 +78,17 @@ impl Summary {
                     }
                     "FIELD"
                 }
-                Step::Sum { .. } => "SUM",
+                Step::Sum { matrices, .. } => {
+                    for d in matrices {
+                        match order.ingredients.get(d - 1) {
+                            Some(Ingredient::Matrix(matrix)) if matrix.columns > 2 => {
+                                count(&mut self.wide_sums, matrix.p, filled);
+                            }
+                            _ => {}
+                        }
+                    }
+                    "SUM"
+                }
                 Step::Merge { p, .. } => {
                     count(&mut self.merges, *p, filled);
                     "MERGE"
@@ -95,6 +112,10 @@ impl Summary {
             };
             eprintln!("  {name}: {times}");
         }
+        eprintln!("matrices refused as 6, by p:");
+        for (p, times) in &self.refusing_matrices {
+            eprintln!("  {p}: {times}");
+        }
         eprintln!("refusals by step:");
         for ((number, kind), times) in &self.refusing_steps {
             eprintln!("  {number} at {kind}: {times}");
@@ -105,6 +126,8 @@ impl Summary {
         print_counts(&self.fields_checked);
         eprintln!("FIELD steps reached, by s (in filled orders):");
         print_counts(&self.fields_run);
+        eprintln!("matrices of 3 columns or more in SUM steps reached, by p (in filled orders):");
+        print_counts(&self.wide_sums);
         eprintln!("MERGE steps reached, by p (in filled orders):");
         print_counts(&self.merges);
         print_sizes("numbers in a list", &self.numbers_in_list);

@@ -3,9 +3,13 @@
 use super::draft::*;
 use super::Random;
 use crate::counting;
+use crate::field::{matrix_sum, product};
 use crate::order::{Generator, Ingredient, Table};
 
 pub const FIELDS: [usize; 7] = [2, 3, 4, 5, 7, 8, 9];
+
+/// For these p a matrix is over the field; 02, K2.
+pub const MATRIX_FIELDS: [usize; 3] = [4, 8, 9];
 
 pub fn largest_exponent(base: usize, most: usize) -> usize {
     let mut exponent = 0;
@@ -130,6 +134,11 @@ pub const H_12: [&str; 12] = [
     "010001111100",
 ];
 
+/// Passes modulo 4 and over the field of 4.
+pub const D_8_4_MODULO_4: [&str; 8] = [
+    "0000", "0000", "0123", "0132", "0213", "0231", "0312", "0321",
+];
+
 pub fn from_words(words: &[&str]) -> Vec<Vec<usize>> {
     words
         .iter()
@@ -144,6 +153,7 @@ pub fn passing_matrix(
     rows: usize,
     most_columns: usize,
 ) -> Vec<Vec<usize>> {
+    let over_field = MATRIX_FIELDS.contains(&p) && random.percent(85);
     let whole = if (p, rows) == (3, 6) {
         from_words(&D_6_6_3)
     } else if (p, rows) == (2, 12) {
@@ -151,36 +161,45 @@ pub fn passing_matrix(
     } else if !rows.is_multiple_of(p) {
         // One column passes whatever it holds.
         (0..rows).map(|_| vec![random.below(p)]).collect()
-    } else if smallest_factor(p) == p {
+    } else if (p, rows) == (4, 8) && over_field {
+        // The products of GF(8), less their highest digit (Bose and Bush).
+        (0..8)
+            .map(|y| (0..8).map(|c| product(8, y, c) % 4).collect())
+            .collect()
+    } else if over_field || smallest_factor(p) == p {
         // Row times column over the digits in base p, of as many digits as the rows allow.
         let mut size = p;
         while rows.is_multiple_of(size * p) {
             size *= p;
         }
+        let times = |x: usize, y: usize| match over_field {
+            true => product(p, x, y),
+            false => x * y % p,
+        };
         let dot = |mut x: usize, mut y: usize| {
             let mut total = 0;
             while x > 0 && y > 0 {
-                total += (x % p) * (y % p);
+                total = matrix_sum(p, total, times(x % p, y % p));
                 x /= p;
                 y /= p;
             }
-            total % p
+            total
         };
         (0..rows)
             .map(|y| (0..size.min(40)).map(|c| dot(y % size, c)).collect())
             .collect()
     } else {
-        // Multiples of y by numbers whose differences have no factor in common with p.
-        (0..rows)
-            .map(|y| (0..smallest_factor(p)).map(|c| c * y % p).collect())
-            .collect()
+        multiples(p, rows)
     };
 
     let mut columns: Vec<usize> = (0..whole[0].len()).collect();
     if random.percent(40) {
         random.shuffle(&mut columns);
     }
-    columns.truncate(random.between(1, most_columns.max(1)));
+    let most = most_columns.max(1);
+    // Two columns over a field can pass modulo p as well; three hardly do.
+    let fewest = if over_field { most.min(3) } else { 1 };
+    columns.truncate(random.between(fewest, most));
     let mut matrix: Vec<Vec<usize>> = whole
         .iter()
         .map(|row| columns.iter().map(|&column| row[column]).collect())
@@ -193,11 +212,19 @@ pub fn passing_matrix(
         for row in &mut matrix {
             let added = random.below(p);
             for entry in row {
-                *entry = (*entry + added) % p;
+                *entry = matrix_sum(p, *entry, added);
             }
         }
     }
     matrix
+}
+
+/// Multiples of y modulo p, by numbers whose differences have no factor in common with p. For 4, 8 and
+/// 9 they pass over the field too: a digit of c × y is c times that of y and what lower digits carry.
+pub fn multiples(p: usize, rows: usize) -> Vec<Vec<usize>> {
+    (0..rows)
+        .map(|y| (0..smallest_factor(p)).map(|c| c * y % p).collect())
+        .collect()
 }
 
 /// A generator that passes, with up to so many factors; found by trying.
@@ -258,6 +285,29 @@ pub fn pencil_generator(random: &mut Random, p: usize, t: usize) -> Numbers {
 
 // Right steps.
 
+/// A first step that leaves a small sheet with a column of 4, 8 or 9 levels, and often one of another
+/// level count.
+pub fn first_step_to_a_field(random: &mut Random, draft: &mut Draft) {
+    let p = random.pick(&[4, 4, 8, 8, 9]);
+    let others = match p {
+        4 => vec![2, 2, 3],
+        8 => vec![2],
+        _ => vec![3, 2],
+    };
+    let mut levels = vec![p];
+    if random.percent(40) {
+        let place = random.below(2);
+        levels.insert(place, random.pick(&others));
+    }
+    let runs = levels.iter().product();
+    let mut table = factorial(runs, &levels);
+    if random.percent(40) {
+        jumble(random, &mut table);
+    }
+    let i = draft.add(table_numbers(&table));
+    draft.steps.push(take(i));
+}
+
 /// The first step. With `merge_p`, one that leaves columns to be merged.
 pub fn first_step(random: &mut Random, draft: &mut Draft, merge_p: Option<usize>) {
     if let Some(p) = merge_p {
@@ -302,7 +352,7 @@ pub fn first_step(random: &mut Random, draft: &mut Draft, merge_p: Option<usize>
         }
     } else {
         // The pencils are over prime fields; so here the others more often.
-        let s = random.pick(&[2, 3, 4, 4, 5, 7, 8, 8, 9, 9]);
+        let s = random.pick(&[2, 3, 4, 4, 4, 5, 7, 8, 8, 8, 9, 9, 9]);
         let most_t = largest_exponent(s, 512);
         let t = random.between(1, most_t);
         let most_factors = (900 / s.pow(t as u32)).clamp(1, 12);
@@ -328,7 +378,7 @@ pub fn parts_of_sum(
     sheet: &Table,
     m: usize,
 ) -> (Vec<usize>, usize) {
-    let room = (1000 / (sheet.runs.len() * m) / sheet.levels.len()).clamp(1, 8);
+    let room = (950 / (sheet.runs.len() * m) / sheet.levels.len()).clamp(1, 8);
     let mut ps = different(&sheet.levels);
     if random.percent(10) && !ps.contains(&11) {
         ps.push(11); // serves no column
@@ -361,7 +411,7 @@ pub fn parts_of_sum(
 pub fn rows_for_sum(random: &mut Random, sheet: &Table) -> Option<usize> {
     let cells = sheet.runs.len() * sheet.levels.len();
     let fitting: Vec<usize> = (1..=20)
-        .filter(|m| sheet.runs.len() * m <= 512 && cells * m <= 900)
+        .filter(|m| sheet.runs.len() * m <= 512 && cells * m <= 750)
         .collect();
     let even: Vec<usize> = fitting
         .iter()
@@ -459,22 +509,27 @@ pub fn right_order(random: &mut Random) -> Draft {
         let unused = unused_ingredient(random);
         draft.add(unused);
     }
-    let merge_p = if random.percent(55) {
-        Some(random.pick(&[2, 3, 3, 5, 7]))
+    // The kind that the second step is likely to have, where the first one prepares it.
+    let mut second = None;
+    if random.percent(18) {
+        first_step_to_a_field(random, &mut draft);
+        second = Some(3);
+    } else if random.percent(55) {
+        let p = random.pick(&[2, 3, 3, 5, 7]);
+        first_step(random, &mut draft, Some(p));
+        second = Some(4);
     } else {
-        None
-    };
-    first_step(random, &mut draft, merge_p);
+        first_step(random, &mut draft, None);
+    }
     let mut more = random.pick(&[0, 1, 1, 1, 2, 2, 3, 4]);
-    if merge_p.is_some() {
+    if second.is_some() {
         more += 1;
     }
     for round in 0..more {
         let Some(sheet) = draft.sheet() else { break };
-        let kind = if merge_p.is_some() && round == 0 && random.percent(70) {
-            4
-        } else {
-            random.pick(&[3, 3, 4, 5, 5])
+        let kind = match second {
+            Some(kind) if round == 0 && random.percent(75) => kind,
+            _ => random.pick(&[3, 3, 4, 5, 5]),
         };
         right_step(random, &mut draft, &sheet, kind);
     }

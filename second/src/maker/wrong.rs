@@ -264,6 +264,7 @@ pub fn spoil_an_ingredient(random: &mut Random, draft: &mut Draft) {
     };
     let ingredient = &mut draft.ingredients[place];
     let (rows, columns) = (ingredient[1].1, ingredient[2].1);
+    let over_field = kind == 2 && MATRIX_FIELDS.contains(&ingredient[3].1);
     // Where the entries start, and how long their rows are.
     let start = match kind {
         1 => 3 + columns,
@@ -276,6 +277,10 @@ pub fn spoil_an_ingredient(random: &mut Random, draft: &mut Draft) {
         for _ in 0..random.between(1, 2) {
             repeat_a_column(random, entries, rows, width);
         }
+        return;
+    }
+    if over_field && random.percent(50) {
+        add_to_rows(random, entries, width);
         return;
     }
     match random.below(6) {
@@ -291,6 +296,32 @@ pub fn spoil_an_ingredient(random: &mut Random, draft: &mut Draft) {
             }
         }
     }
+}
+
+/// Adds a number to each row of a matrix modulo p, which leaves the differences modulo p as they were,
+/// and those of a field hardly.
+fn add_to_rows(random: &mut Random, entries: &mut [(Role, usize)], columns: usize) {
+    let Role::Entry(p) = entries[0].0 else { return };
+    for row in entries.chunks_mut(columns) {
+        let added = random.below(p);
+        for (_, entry) in row {
+            *entry = (*entry + added) % p;
+        }
+    }
+}
+
+/// A matrix for 4, 8 or 9 levels that passes modulo p, and over the field not surely.
+fn matrix_modulo_p(random: &mut Random) -> Numbers {
+    let p = random.pick(&[4, 4, 8, 8, 9]);
+    let rows = if p == 4 && random.percent(50) {
+        from_words(&D_8_4_MODULO_4)
+    } else {
+        multiples(p, p * random.between(1, 2))
+    };
+    let columns = rows[0].len();
+    let mut numbers = matrix_numbers(p, &rows);
+    add_to_rows(random, &mut numbers[4..], columns);
+    numbers
 }
 
 /// Puts the entries of some columns into any order, which leaves the count of each level as it was.
@@ -320,9 +351,12 @@ fn copy_columns(random: &mut Random, entries: &mut [(Role, usize)], columns: usi
     }
 }
 
-/// A table whose columns are even but not its pairs, often because there can be no even pairs; or a
-/// matrix of any entries.
+/// A table whose columns are even but not its pairs, often because there can be no even pairs; a matrix
+/// built modulo p where it is over a field; or a matrix of any entries.
 pub fn doubtful_ingredient(random: &mut Random) -> Numbers {
+    if random.percent(25) {
+        return matrix_modulo_p(random);
+    }
     if random.percent(60) {
         let runs: usize = random.pick(&[6, 6, 9, 10, 12, 12, 18, 20]);
         let fitting: Vec<usize> = (2..=runs).filter(|s| runs.is_multiple_of(*s)).collect();

@@ -1,9 +1,11 @@
-//! The examples of 01, each refusal, orders at both sides of each limit, and the spare after each
-//! kind of step. The orders alone are written here; `plan_text` gives the answers.
+//! The examples of 01, each refusal, orders at both sides of each limit, the spare after each kind of
+//! step, and the sums and differences that go with each p. The orders alone are written here;
+//! `plan_text` gives the answers.
 
 mod short;
 
 use super::Records;
+use crate::field::product;
 use crate::text::spaced;
 use crate::{Lengths, LEAST};
 use short::*;
@@ -25,6 +27,9 @@ pub fn examples() -> String {
     put(&mut records, "five kinds", FIVE_KINDS);
     put(&mut records, "spare", SPARE);
     put(&mut records, "spare", &sixteen_steps());
+    put(&mut records, "fields", FIELDS);
+    put(&mut records, "fields", &products_and_sums());
+    put(&mut records, "fields", &no_fields());
     put(&mut records, "words", WORDS);
     records.text
 }
@@ -183,6 +188,63 @@ fn rising_spare() -> String {
         c += columns;
     }
     format!("3 {generator} {tables} 16 {steps}")
+}
+
+/// A table of one column with each of p levels once.
+fn each_level(p: usize) -> String {
+    format!("1 {p} 1 {p} {}", spaced(&Vec::from_iter(0..p)))
+}
+
+/// The products of a field as a matrix, and all sums of two numbers below p, of which those below 4
+/// are among the short orders; 02, K2.
+fn products_and_sums() -> Vec<(String, String)> {
+    let mut orders = Vec::new();
+    for p in [8, 9] {
+        let entries: Vec<usize> = (0..p * p).map(|n| product(p, n / p, n % p)).collect();
+        orders.push((
+            format!("p = {p}, the products of GF({p})"),
+            format!(
+                "2 {} 2 {p} {p} {p} {} 2 1 1 3 1 2 1",
+                each_level(p),
+                spaced(&entries)
+            ),
+        ));
+    }
+    for p in [8, 9, 16] {
+        let column = spaced(&Vec::from_iter(0..p));
+        orders.push((
+            format!("p = {p}, all sums"),
+            format!("2 {} 2 {p} 1 {p} {column} 2 1 1 3 1 2 0", each_level(p)),
+        ));
+    }
+    orders
+}
+
+/// The other powers of a prime q stay modulo p. Rows 0 y for each y but 1, and a row in its place whose
+/// difference is that of 0 and 1, in one case modulo p and in the other digit by digit in base q.
+fn no_fields() -> Vec<(String, String)> {
+    let mut orders = Vec::new();
+    for (p, q) in [(16, 2), (25, 5), (27, 3), (32, 2), (49, 7), (64, 2)] {
+        let matrix = |in_place: &str| {
+            let rows: Vec<String> = (2..p).map(|y| format!("0 {y}")).collect();
+            let rows = rows.join(" ");
+            format!("1 2 {p} 2 {p} 0 0 {in_place} {rows} 1 1 101")
+        };
+        orders.push((
+            format!("p = {p}, even modulo {p} alone"),
+            matrix(&format!("{} {q}", q - 1)),
+        ));
+        orders.push((
+            format!("p = {p}, even digit by digit alone"),
+            matrix(&format!("{} 0", q - 1)),
+        ));
+        let last = p - 1;
+        orders.push((
+            format!("p = {p}, plus 1 and plus {last}"),
+            format!("2 {} 2 2 1 {p} 1 {last} 2 1 1 3 1 2 0", each_level(p)),
+        ));
+    }
+    orders
 }
 
 /// Tables of two runs, and TAKE of the 32nd.

@@ -1,33 +1,38 @@
--- `level_sum` meets its contract: a sum of two numbers below p is at most once too large.
+-- `level_sum` meets its contract: the sums of a field come from its constant table, and every other p is modulo p.
 -- Assumes nothing.
-use mathlib.Core.Path.{sym, _∙_}
-use native.Mathlib.Nat.{mod-eq-of-lt, mod-eq-sub-mod}
-use native.Mathlib.Omega.{arith}
+use mathlib.Core.Path.{sym, _∙_, subst}
 use borrow.Author.Needs.{needs}
-use Rattle.galois.specs.Levels.{levelSum}
+use lib.Dec.{T}
+use Rattle.galois.proofs.Levels.{over-size, sum-over, sum-modulo}
 use Rattle.group_sums.proofs.level_sum.Statement.{statement}
 use Rattle.group_sums.proofs.level_sum.Tie as tie
 
-add-total : tie.Need-add-total
-add-total c = search needs
+over-field-requires : tie.Need-over-field-requires
+over-field-requires c κs = search needs
 
-cast-result : tie.Need-cast-result
-cast-result c = search needs
+cast-sum : tie.Need-cast-sum
+cast-sum c = search needs
 
-sub-result : tie.Need-sub-result
-sub-result c = search needs
+sum-requires : tie.Need-sum-requires
+sum-requires c κs =
+    let start = c .before .before in
+    record {
+      size = over-size _ (subst T (sym (c .if1 .taken) ∙ c .before .over-field .ensures) tt);
+      first = start .pre .0;
+      second = start .pre .1;
+    }
 
-cast-result-2 : tie.Need-cast-result-2
-cast-result-2 c = search needs
+modulo-sum-requires : tie.Need-modulo-sum-requires
+modulo-sum-requires c κs = search needs
 
 returns : tie.Need-returns
-unfolding levelSum
-returns c = sym (mod-eq-of-lt (c .if1 .taken))
+returns c =
+    c .sum .ensures ∙ sym (sum-over _ _ _ (sym (c .before .before .over-field .ensures) ∙ c .before .if1 .taken))
 
 returns-2 : tie.Need-returns-2
-unfolding levelSum
-returns-2 c = sym (mod-eq-sub-mod (c .if1 .left) ∙ mod-eq-of-lt (omega (arith, c .before .pre .0, c .before .pre .1)))
+returns-2 c =
+    c .modulo-sum .ensures ∙ sym (sum-modulo _ _ _ (sym (c .before .before .over-field .ensures) ∙ c .before .if1 .left))
 
 pub level-sum-spec : {M : Type 1} → statement M
 level-sum-spec =
-    tie.close (tie.spec add-total cast-result sub-result cast-result-2 returns returns-2)
+    tie.close (tie.spec over-field-requires cast-sum sum-requires modulo-sum-requires returns returns-2)

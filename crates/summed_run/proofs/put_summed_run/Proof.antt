@@ -5,21 +5,22 @@ use borrow.Author.Needs.{needs}
 use lib.ListN.{length, getD}
 use Rattle.finite.specs.Lists.{AllBelow, from}
 use Rattle.buffers.proofs.Puts.{put-length}
+use Rattle.group_sums.proofs.Tables.{summable}
 use Rattle.sum_bytes.specs.Summing.{summedCells, summedRun}
 use Rattle.sum_bytes.proofs.Pieces.{Pieces, pieces-none, below-room, below-next, below-all}
-use Rattle.sum_bytes.proofs.Sums.{row-part, cells-length}
+use Rattle.sum_bytes.proofs.Sums.{row-length, row-part, cells-length}
 use Rattle.summed_run.proofs.put_summed_run.Statement.{statement}
 use Rattle.summed_run.proofs.put_summed_run.Tie as tie
 
 abbrev Inv-loop : tie.InvT-loop
-Inv-loop buf₀ at list entries widths row levels cells place₀ j₀ buf place j =
+Inv-loop buf₀ at list entries widths row levels cells sums place₀ j₀ buf place j =
     Pieces (summedCells list entries widths row levels cells) (from 0 (length levels)) buf₀ at j buf place
 
 abbrev μ-loop : tie.MeasureT-loop
-μ-loop buf₀ at list entries widths row levels cells place₀ j₀ buf place j = length levels - j
+μ-loop buf₀ at list entries widths row levels cells sums place₀ j₀ buf place j = length levels - j
 
 abbrev start-of : tie.In-loop Inv-loop μ-loop → tie.Start Inv-loop μ-loop
-start-of c = c .before .before .before .before .before .before .before .before
+start-of c = c .before .before .before .before .before .before .before .before .before
 
 abbrev level-of : tie.In-loop Inv-loop μ-loop → ℕ
 level-of c = getD (start-of c .args .levels .now) (c .before .loop .j) 0
@@ -35,13 +36,13 @@ shared-slice-read-s : tie.Need-shared-slice-read-s Inv-loop μ-loop
 shared-slice-read-s c = search needs
 
 cast-s : tie.Need-cast-s Inv-loop μ-loop
-cast-s c = omega (arith, c .shared-slice-known6 .given (c .before .before .loop .j))
+cast-s c = omega (arith, c .shared-slice-known7 .given (c .before .before .loop .j))
 
 shared-slice-read-width : tie.Need-shared-slice-read-width Inv-loop μ-loop
 shared-slice-read-width c = omega (arith, level-below (c .before .before), start-of (c .before .before) .pre .0 .widths-full)
 
 cast-width : tie.Need-cast-width Inv-loop μ-loop
-cast-width c = omega (arith, c .shared-slice-known7 .given (level-of (c .before .before)))
+cast-width c = omega (arith, c .shared-slice-known8 .given (level-of (c .before .before)))
 
 mul-start : tie.Need-mul-start Inv-loop μ-loop
 mul-start c = omega (arith, level-below (c .before .before))
@@ -50,7 +51,7 @@ shared-slice-read-start : tie.Need-shared-slice-read-start Inv-loop μ-loop
 shared-slice-read-start c = omega (arith, level-below (c .before .before .before), start-of (c .before .before .before) .pre .0 .entries-full)
 
 cast-start : tie.Need-cast-start Inv-loop μ-loop
-cast-start c = omega (arith, c .shared-slice-known8 .given (level-of (c .before .before .before)))
+cast-start c = omega (arith, c .shared-slice-known9 .given (level-of (c .before .before .before)))
 
 mul-start-2 : tie.Need-mul-start-2 Inv-loop μ-loop
 mul-start-2 c = let turn = c .before .before .before in omega (arith, start-of turn .pre .0 .within (level-of turn))
@@ -86,8 +87,14 @@ unfolding summedRun
 put-sums-requires c κs =
     let turn = c .before .before .before .before .before .before .before in
     let start = start-of turn in
-    let room = below-room (turn .before .loop .inv) (turn .loop-test .taken) (start .pre .1 .1) in
-    rw row-part (rw cells-length at room, (start .pre .1 .0 .in-range _ (turn .loop-test .taken), start .pre .0 .below (level-of turn)))
+    let room = below-room (turn .before .loop .inv) (turn .loop-test .taken) (start .pre .1 .1 .0) in
+    rw row-part (
+      rw cells-length at room,
+      (
+        (start .pre .1 .0 .in-range _ (turn .loop-test .taken), start .pre .0 .below (level-of turn)),
+        rw (row-length (start .pre .0) _) (summable (start .pre .1 .1 .1) (level-of turn)),
+      ),
+    )
 
 add-j : tie.Need-add-j Inv-loop μ-loop
 add-j c = search needs

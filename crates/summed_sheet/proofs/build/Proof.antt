@@ -14,19 +14,33 @@ use Rattle.summed_sheet.proofs.build.Tie as tie
 mul-used : tie.Need-mul-used
 mul-used c = omega (arith, ready-used (c .before .before .before .before .before .before .pre .0))
 
+field-tables-requires : tie.Need-field-tables-requires
+field-tables-requires c κs = omega (arith, c .before .before .before .before .before .before .pre .1 .0 .widths-full)
+
 slice-reshare-prefix-put-runs : tie.Need-slice-reshare-prefix-put-runs
 slice-reshare-prefix-put-runs c = search needs
 
 slice-aggregate-put-runs : tie.Need-slice-aggregate-put-runs
-slice-aggregate-put-runs c = sym (length-take-le _ _ (ready-few (c .before .before .before .before .before .before .before .before .before .pre .0)))
+slice-aggregate-put-runs c = sym (length-take-le _ _ (ready-few (c .before .before .before .before .before .before .before .before .before .before .pre .0)))
+
+slice-aggregate-put-runs-2 : tie.Need-slice-aggregate-put-runs-2
+slice-aggregate-put-runs-2 c = sym (c .before .before .before .before .field-tables .ensures .places)
 
 put-runs-requires : tie.Need-put-runs-requires
 unfolding builtSheet
 put-runs-requires c κs =
-    let start = c .before .before .before .before .before .before .before .before .before in
+    let start = c .before .before .before .before .before .before .before .before .before .before .before in
     let stand = start .pre .1 .0 in
-    let small = start .pre .1 .1 .1 in
-    (stand, (sheet-stands (start .pre .0), (start .pre .1 .1 .0, (small .runs-most, built-room stand _ _ _ _ small _ (start .pre .0 .long .scratch-long)))))
+    let small = start .pre .1 .1 .1 in (
+      stand,
+      (
+        sheet-stands (start .pre .0),
+        (
+          start .pre .1 .1 .0,
+          ((small .runs-most, built-room stand _ _ _ _ small _ (start .pre .0 .long .scratch-long)), c .before .before .before .before .field-tables .ensures),
+        ),
+      ),
+    )
 
 slice-aggregate-put-levels : tie.Need-slice-aggregate-put-levels
 slice-aggregate-put-levels c = search needs
@@ -35,12 +49,12 @@ slice-reshare-prefix-put-levels : tie.Need-slice-reshare-prefix-put-levels
 slice-reshare-prefix-put-levels c = search needs
 
 slice-aggregate-put-levels-2 : tie.Need-slice-aggregate-put-levels-2
-slice-aggregate-put-levels-2 c = sym (length-take-le _ _ (ready-few (c .before .before .before .before .before .before .before .before .before .before .before .before .before .before .pre .0)))
+slice-aggregate-put-levels-2 c = sym (length-take-le _ _ (ready-few (c .before .before .before .before .before .before .before .before .before .before .before .before .before .before .before .before .pre .0)))
 
 put-levels-requires : tie.Need-put-levels-requires
 unfolding builtSheet
 put-levels-requires c κs =
-    let start = c .before .before .before .before .before .before .before .before .before .before .before .before .before .before in
+    let start = c .before .before .before .before .before .before .before .before .before .before .before .before .before .before .before .before in
     (start .pre .1 .1 .0 .0, (rw (start .pre .1 .0 .widths-full) (sheet-stands (start .pre .0) .few), start .pre .1 .1 .1 .columns-most))
 
 array-share-prefix-counts : tie.Need-array-share-prefix-counts
@@ -52,7 +66,7 @@ slice-aggregate-settle c = put-part (c .before .before .put-levels .ensures)
 settle-requires : tie.Need-settle-requires
 unfolding builtSheet
 settle-requires c κs =
-    let start = c .before .before .before .before .before .before .before .before .before .before .before .before .before .before .before .before .before .before .before .before in
+    let start = c .before .before .before .before .before .before .before .before .before .before .before .before .before .before .before .before .before .before .before .before .before .before in
     let ready = start .pre .0 in
     let stand = start .pre .1 .0 in
     let small = start .pre .1 .1 .1 in
@@ -82,7 +96,7 @@ same-length-3 c = search needs
 returns : tie.Need-returns
 unfolding builtSheet
 returns c =
-    let start = c .before .before .before .before .before .before .before .before .before .before .before .before .before .before .before .before .before .before .before .before .before .before .before .before .before .before .before in
+    let start = c .before .before .before .before .before .before .before .before .before .before .before .before .before .before .before .before .before .before .before .before .before .before .before .before .before .before .before .before .before in
     let ready = start .pre .0 in
     let settled = c .before .before .before .before .before .before .settle in (
       built-holds _ (ready .scratch-clear) (put-sheet _ ready (start .pre .1 .0) (start .pre .1 .1 .1) (c .before .before .before .before .before .before .before .before .before .before .before .before .before .before .before .before .before .put-runs .ensures)) _ _
@@ -96,8 +110,10 @@ build-spec =
     tie.close
     (tie.spec
     mul-used
+    field-tables-requires
     slice-reshare-prefix-put-runs
     slice-aggregate-put-runs
+    slice-aggregate-put-runs-2
     put-runs-requires
     slice-aggregate-put-levels
     slice-reshare-prefix-put-levels

@@ -14,14 +14,14 @@ use Rattle.summed_sheet.proofs.put_runs.Statement.{statement}
 use Rattle.summed_sheet.proofs.put_runs.Tie as tie
 
 abbrev Inv-loop : tie.InvT-loop
-Inv-loop buf₀ list entries widths rows k runs table levels total place₀ r₀ buf place r =
+Inv-loop buf₀ list entries widths rows k runs table levels sums total place₀ r₀ buf place r =
     Pieces (builtRun list entries widths rows (tableIn list k) table levels) (from 0 (runs * rows)) buf₀ 0 r buf place
 
 abbrev μ-loop : tie.MeasureT-loop
-μ-loop buf₀ list entries widths rows k runs table levels total place₀ r₀ buf place r = runs * rows - r
+μ-loop buf₀ list entries widths rows k runs table levels sums total place₀ r₀ buf place r = runs * rows - r
 
 abbrev start-of : tie.In-loop Inv-loop μ-loop → tie.Start Inv-loop μ-loop
-start-of c = c .before .before .before .before .before .before .before .before
+start-of c = c .before .before .before .before .before .before .before .before .before
 
 -- the sheet run ends within the run table
 sheet-run : (c : tie.In-loop Inv-loop μ-loop)
@@ -35,7 +35,7 @@ room : (c : tie.In-loop Inv-loop μ-loop)
     + (length (summedRun (start-of c .args .list .now) (start-of c .args .entries .now) (start-of c .args .widths .now) (c .before .loop .r % start-of c .args .rows) (start-of c .args .levels .now) (take (length (start-of c .args .levels .now)) (drop (c .before .loop .r / start-of c .args .rows * length (start-of c .args .levels .now)) (start-of c .args .table .now))))
     + columns (tableIn (start-of c .args .list .now) (start-of c .args .k)))
     ≤ length (c .before .loop .buf)
-room c = rw built-length at (below-room (c .before .loop .inv) (c .loop-test .taken) (omega (arith, start-of c .pre .1 .1 .1 .1)))
+room c = rw built-length at (below-room (c .before .loop .inv) (c .loop-test .taken) (omega (arith, start-of c .pre .1 .1 .1 .0 .1)))
 
 mul-total : tie.Need-mul-total Inv-loop μ-loop
 mul-total c = omega arith
@@ -70,7 +70,7 @@ put-summed-run-requires c κs =
     let start = start-of turn in
     rw part-same (
       row-stands (start .pre .0) _ (row-below _ _ _ (turn .loop-test .taken)),
-      (run-stands (start .pre .1 .0) _ (run-below _ _ _ (turn .loop-test .taken)), omega (arith, room turn)),
+      (run-stands (start .pre .1 .0) _ (run-below _ _ _ (turn .loop-test .taken)), (omega (arith, room turn), start .pre .1 .1 .1 .1)),
     )
 
 put-run-requires : tie.Need-put-run-requires Inv-loop μ-loop
@@ -82,7 +82,7 @@ put-run-requires c κs =
     (start .pre .1 .1 .0 .0, (λ some. rw (start .pre .1 .1 .0 .1 some) (row-below _ _ _ (turn .loop-test .taken)), omega (arith, room turn, put .ends, put-length put)))
 
 add-r : tie.Need-add-r Inv-loop μ-loop
-add-r c = let turn = c .before .before .before .before .before .before .before .before .before in omega (arith, turn .loop-test .taken, start-of turn .pre .1 .1 .1 .0)
+add-r c = let turn = c .before .before .before .before .before .before .before .before .before in omega (arith, turn .loop-test .taken, start-of turn .pre .1 .1 .1 .0 .0)
 
 loop-less : tie.Need-loop-less Inv-loop μ-loop
 loop-less c = search needs

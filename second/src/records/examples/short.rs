@@ -254,6 +254,83 @@ pub const SPARE: &[(&str, &str)] = &[
     ),
 ];
 
+/// Fields of 4, 8 and 9 in the matrices; 02, K2.
+pub const FIELDS: &[(&str, &str)] = &[
+    (
+        "p = 4, rows 0000 0123 0231 0312",
+        "2 1 4 1 4 0 1 2 3 2 4 4 4 0 0 0 0 0 1 2 3 0 2 3 1 0 3 1 2 2 1 1 3 1 2 1",
+    ),
+    // Matrices built on modulo 4. Where they pass, the sums are the field's all the same.
+    (
+        "p = 4, rows 00 01 02 03, even modulo 4 too",
+        "2 1 4 1 4 0 1 2 3 2 4 2 4 0 0 0 1 0 2 0 3 2 1 1 3 1 2 0",
+    ),
+    (
+        "p = 4, rows 00 12 02 03, even modulo 4 alone",
+        "1 2 4 2 4 0 0 1 2 0 2 0 3 1 1 101",
+    ),
+    // Twice 0000, and 0 before each order of 1, 2 and 3.
+    (
+        "p = 4, 8 rows of 4 columns, even modulo 4 too",
+        "2 1 4 1 4 0 1 2 3 2 8 4 4 0 0 0 0 0 0 0 0 0 1 2 3 0 1 3 2 0 2 1 3 0 2 3 1 0 3 1 2 0 3 2 1 2 1 1 3 1 2 0",
+    ),
+    (
+        "p = 4, 8 rows of 3 columns, even modulo 4 alone",
+        "1 2 8 3 4 0 0 0 0 0 1 0 1 0 0 1 3 0 2 2 0 2 3 0 3 1 0 3 2 1 1 101",
+    ),
+    (
+        "p = 8, even modulo 8 alone",
+        "1 2 8 2 8 0 0 1 2 0 2 0 3 0 4 0 5 0 6 0 7 1 1 101",
+    ),
+    (
+        "p = 9, even modulo 9 alone",
+        "1 2 9 2 9 0 0 2 3 0 2 0 3 0 4 0 5 0 6 0 7 0 8 1 1 101",
+    ),
+    // First minus second is 0 6 1 6 8 7 3 5 4, without 2. Second minus first would be without 1, the
+    // sum has 0 twice, and modulo 9 the lowest that fails would be 6.
+    (
+        "p = 9, first minus second",
+        "1 2 9 2 9 0 0 3 6 0 2 0 3 0 4 0 5 0 6 0 7 0 8 1 1 101",
+    ),
+    // Each column has the sum of its own level count. For 2, 4 and 2 levels the two matrices have 4
+    // rows and 4 columns, in the other orders one of each.
+    (
+        "SUM on 2, 4 and 2 levels",
+        "3 1 8 3 2 4 2 0 0 0 1 0 1 0 1 0 1 1 1 0 2 1 1 2 0 0 3 1 1 3 0 2 4 4 4 0 0 0 0 0 1 2 3 0 2 3 1 0 3 1 2 2 4 4 2 0 0 0 0 0 1 0 1 0 0 1 1 0 1 1 0 2 1 1 3 2 2 3 0",
+    ),
+    (
+        "SUM on 8 and 4 levels",
+        "3 3 5 2 2 3 2 1 0 0 0 0 0 1 0 0 0 0 0 1 0 0 0 0 0 1 0 0 0 0 0 1 2 1 1 8 5 2 1 1 4 3 2 2 1 3 2 2 3 0",
+    ),
+    (
+        "SUM on 9 and 3 levels",
+        "3 3 3 2 3 2 1 1 0 0 0 1 0 0 0 1 2 1 1 9 5 2 1 1 3 2 2 2 1 3 2 2 3 0",
+    ),
+    (
+        "SUM on 16 and 4 levels",
+        "3 3 6 2 2 4 2 1 0 0 0 0 0 0 1 0 0 0 0 0 0 1 0 0 0 0 0 0 1 0 0 0 0 0 0 1 0 0 0 0 0 0 1 2 1 1 16 7 2 1 1 4 3 2 2 1 3 2 2 3 0",
+    ),
+    // MERGE stays modulo p.
+    (
+        "MERGE modulo 2, then SUM over GF(4)",
+        "1 2 4 4 4 0 0 0 0 0 1 2 3 0 2 3 1 0 3 1 2 3 1 101 4 2 1 2 3 3 1 1 101",
+    ),
+    (
+        "MERGE modulo 3, then SUM over GF(9)",
+        "1 2 9 3 9 0 0 0 0 1 3 0 2 6 0 3 2 0 4 5 0 5 8 0 6 1 0 7 4 0 8 7 3 1 102 4 3 2 1 3 4 3 1 1 102",
+    ),
+    // The members are the first digits of x, y and x + y, and for p = 9 of x + 2y too: digits of the
+    // field's sums are sums modulo 2 or 3, where a carry would make them no sums.
+    (
+        "SUM over GF(4), then SPLIT and MERGE modulo 2",
+        "2 1 4 1 4 0 1 2 3 2 4 2 4 0 0 0 1 0 2 0 3 6 1 1 3 1 2 1 5 3 101 5 2 101 5 1 101 4 2 1 7 4",
+    ),
+    (
+        "SUM over GF(9), then SPLIT and MERGE modulo 3",
+        "2 1 9 1 9 0 1 2 3 4 5 6 7 8 2 9 3 9 0 0 0 0 1 2 0 2 1 0 3 6 0 4 8 0 5 7 0 6 3 0 7 5 0 8 4 7 1 1 3 1 2 1 5 4 102 5 3 102 5 2 102 5 1 102 4 3 1 13 5 9",
+    ),
+];
+
 /// Texts whose words are not all plain numbers.
 pub const WORDS: &[(&str, &str)] = &[
     ("leading zeros, s = 007", "1 3 1 1 007 1 1 1 2 1"),
