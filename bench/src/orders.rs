@@ -1,7 +1,10 @@
 //! The orders that are timed. Most are as large as the limits of 01 let them be.
 
+mod over_fields;
+
+use over_fields::Sequences;
 use second::maker::make;
-use second::LEAST;
+use second::{plan, Answer, LEAST};
 
 pub const MOST_NUMBERS: usize = 32_768;
 
@@ -21,6 +24,14 @@ impl Case {
             fast: true,
         }
     }
+
+    /// Of an order of which it is not plain that it is filled.
+    fn filled(name: &str, list: Vec<u16>) -> Case {
+        let [table_len, levels_len, scratch_len] = LEAST;
+        let answer = plan(&list, table_len, levels_len, scratch_len);
+        assert!(matches!(answer, Answer::Filled { .. }), "{name}");
+        Case::of(name, list)
+    }
 }
 
 /// All cases, in the order in which they are printed.
@@ -32,7 +43,13 @@ pub fn cases() -> Vec<Case> {
         Case::of("SUM to 512 runs and 128 columns", sum_order()),
         Case::of("sixteen steps on 512 runs", sixteen_steps()),
         Case::of("sixteen steps on 4 runs", sixteen_small_steps()),
+        Case::filled("SUM with p = 4 to 512 runs, 84 columns", sum_of_4()),
+        Case::filled("SUM with p = 8 to 512 runs, 18 columns", sum_of_8()),
+        Case::filled("SUM with p = 9 to 486 runs, 8 columns", sum_of_9()),
         Case::of("matrix of 252 rows and 128 columns", matrix_order()),
+        Case::filled("matrix, p = 4, 256 rows and 127 columns", matrix_of_4()),
+        Case::filled("matrix, p = 8, 512 rows and 63 columns", matrix_of_8()),
+        Case::filled("matrix, p = 9, 486 rows and 67 columns", matrix_of_9()),
         Case::of("refused: the last number", last_number_refused()),
         Case::of("refused: the last entry", last_entry_refused()),
         Case::of("refused: the last pair", last_pair_refused()),
@@ -94,6 +111,90 @@ fn merged_and_split(first: &[&'static [u16]]) -> Vec<&'static [u16]> {
 /// columns are even only if four divides the number of rows; 256 rows are more than a list holds.
 fn matrix_order() -> Vec<u16> {
     order(&[matrix(2, 252, 128, paley)], &[&[1, 101]])
+}
+
+/// The most columns with 256 rows that a list holds.
+fn matrix_of_4() -> Vec<u16> {
+    let matrix = Sequences {
+        q: 2,
+        recurrence: &[1, 0, 1, 1, 1, 0, 0, 0],
+        digits: 2,
+        gap: 15,
+    };
+    order(&[matrix.matrix(127, 1)], &[&[1, 101]])
+}
+
+/// The most columns with 512 rows that a list holds.
+fn matrix_of_8() -> Vec<u16> {
+    let matrix = Sequences {
+        q: 2,
+        recurrence: &[1, 0, 0, 0, 1, 0, 0, 0, 0],
+        digits: 3,
+        gap: 1,
+    };
+    order(&[matrix.matrix(63, 1)], &[&[1, 101]])
+}
+
+/// The most columns with 486 rows that a list holds; each row stands twice.
+fn matrix_of_9() -> Vec<u16> {
+    let matrix = Sequences {
+        q: 3,
+        recurrence: &[2, 1, 0, 0, 0],
+        digits: 2,
+        gap: 19,
+    };
+    order(&[matrix.matrix(67, 2)], &[&[1, 101]])
+}
+
+/// All columns that 64 runs have, and a matrix of 8 rows. It has 4 columns, as modulo 4 none has more;
+/// over the field alone one has 8, but refused before K2 it would say nothing.
+fn sum_of_4() -> Vec<u16> {
+    let sheet = Sequences {
+        q: 2,
+        recurrence: &[1, 1, 0, 0, 0, 0],
+        digits: 2,
+        gap: 21,
+    };
+    let matrix = Sequences {
+        q: 2,
+        recurrence: &[1, 1, 0],
+        digits: 2,
+        gap: 1,
+    };
+    let parts = [sheet.table(21), matrix.matrix(4, 1)];
+    order(&parts, &[&[1, 1], &[3, 1, 2, 0]])
+}
+
+/// The same for 8 levels, where modulo 8 no matrix of 8 rows has more than 2 columns.
+fn sum_of_8() -> Vec<u16> {
+    let sheet = Sequences {
+        q: 2,
+        recurrence: &[1, 1, 0, 0, 0, 0],
+        digits: 3,
+        gap: 9,
+    };
+    let matrix = Sequences {
+        q: 2,
+        recurrence: &[1, 1, 0],
+        digits: 3,
+        gap: 1,
+    };
+    let parts = [sheet.table(9), matrix.matrix(2, 1)];
+    order(&parts, &[&[1, 1], &[3, 1, 2, 0]])
+}
+
+/// One column with 9 levels: 81 runs, which have ten, would leave room for 6 rows alone.
+fn sum_of_9() -> Vec<u16> {
+    let mut sheet = vec![1, 9, 1, 9];
+    sheet.extend(0..9);
+    let matrix = Sequences {
+        q: 3,
+        recurrence: &[2, 1, 0],
+        digits: 2,
+        gap: 2,
+    };
+    let parts = [sheet, matrix.matrix(8, 2)];
+    order(&parts, &[&[1, 1], &[3, 1, 2, 0]])
 }
 
 /// A matrix of one column, to make up the length, and then the largest table.

@@ -1,6 +1,7 @@
 //! The steps. Each later step builds its sheet in the buffer that is free, so that nothing is copied
 //! back until the end. A step that 01 refuses is not written.
 
+use super::nine;
 use super::read::{Ingredient, Order, Shape, Step};
 use super::Stop;
 use crate::planners::{filled, Buffers, Outcome};
@@ -8,6 +9,9 @@ use std::mem::swap;
 use std::ops::Range;
 
 const HOUSE_TABLE_101: [[u8; 3]; 4] = [[0, 0, 0], [0, 1, 1], [1, 0, 1], [1, 1, 0]];
+
+/// The entries of the matrix that serves a level count, as bytes, and its columns.
+type Served = (Vec<u8>, usize);
 
 /// A sheet; its cells are the first of the buffer that it lies in.
 struct Sheet<'b> {
@@ -104,8 +108,7 @@ impl Sheet<'_> {
     }
 
     fn sum(&mut self, order: &Order, matrices: &[u16]) -> Result<(), Stop> {
-        // The entries of the matrix that serves a level count, as bytes, and its columns.
-        let mut served: Vec<(Vec<u8>, usize)> = vec![(Vec::new(), 0); 65];
+        let mut served: Vec<Served> = vec![(Vec::new(), 0); 65];
         let mut rows = 0;
         for (index, &d) in matrices.iter().enumerate() {
             let matrix = ingredient(order, d.into())?;
@@ -127,25 +130,39 @@ impl Sheet<'_> {
         let width = self.levels.iter().map(|level| of_column(level).1).sum();
         within_limits(self.runs * rows, width)?;
 
-        let mut place = 0;
-        for run in self.cells.chunks_exact(self.levels.len()).take(self.runs) {
-            for y in 0..rows {
-                for (&p, &cell) in self.levels.iter().zip(run) {
-                    let (entries, columns) = of_column(&p);
-                    let row = &entries[y * columns..(y + 1) * columns];
-                    let new = &mut self.free[place..place + columns];
-                    for (new, &entry) in new.iter_mut().zip(row) {
-                        let total = cell + entry;
-                        *new = if total < p { total } else { total - p };
-                    }
-                    place += columns;
-                }
-            }
+        // 02, K2: the sum is that of the field for 4, 8 and 9, and modulo p for every other p.
+        let all = |fits: fn(u8) -> bool| self.levels.iter().all(|&p| fits(p));
+        if all(|p| p == 4 || p == 8) {
+            self.put_sums(&served, rows, |_, cell, entry| cell ^ entry);
+        } else if all(|p| p == 9) {
+            self.put_sums(&served, rows, |_, cell, entry| nine::sum(cell, entry));
+        } else if all(|p| ![4, 8, 9].contains(&p)) {
+            self.put_sums(&served, rows, modulo_p);
+        } else {
+            return Err(Stop::NotWritten);
         }
         let repeated = |level: &u8| vec![*level; of_column(level).1];
         self.levels = self.levels.iter().flat_map(repeated).collect();
         self.runs *= rows;
         Ok(())
+    }
+
+    /// The runs that SUM makes; a sum is given a level count, a cell and an entry.
+    fn put_sums(&mut self, served: &[Served], rows: usize, sum: impl Fn(u8, u8, u8) -> u8) {
+        let mut place = 0;
+        for run in self.cells.chunks_exact(self.levels.len()).take(self.runs) {
+            for y in 0..rows {
+                for (&p, &cell) in self.levels.iter().zip(run) {
+                    let (entries, columns) = &served[usize::from(p)];
+                    let row = &entries[y * columns..(y + 1) * columns];
+                    let new = &mut self.free[place..place + columns];
+                    for (new, &entry) in new.iter_mut().zip(row) {
+                        *new = sum(p, cell, entry);
+                    }
+                    place += columns;
+                }
+            }
+        }
     }
 
     fn merge(&mut self, members: &[u16]) -> Result<(), Stop> {
@@ -197,6 +214,15 @@ impl Sheet<'_> {
         }
         self.levels.splice(c..c + 1, [2; 3]);
         Ok(())
+    }
+}
+
+fn modulo_p(p: u8, cell: u8, entry: u8) -> u8 {
+    let total = cell + entry;
+    if total < p {
+        total
+    } else {
+        total - p
     }
 }
 

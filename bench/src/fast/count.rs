@@ -1,6 +1,7 @@
 //! Question 4: a flat array of counters is filled once for each two columns. The columns are first
 //! laid out one after the other, as bytes.
 
+use super::nine;
 use super::read::{Ingredient, Shape};
 use super::Stop;
 use std::mem::take;
@@ -23,7 +24,7 @@ pub fn check(
             check_table(number, levels, &laid_out(entries, levels.len(), scratch))
         }
         Shape::Matrix { columns, p } => {
-            check_matrix(number, p.into(), &laid_out(entries, columns, scratch))
+            check_matrix(number, p as u8, &laid_out(entries, columns, scratch))
         }
         Shape::Generator { factors } => check_generator(entries, factors),
     }
@@ -63,18 +64,27 @@ pub fn check_table(number: usize, levels: &[u16], columns: &[&[u8]]) -> Result<(
     Ok(())
 }
 
-fn check_matrix(number: usize, p: usize, columns: &[&[u8]]) -> Result<(), Stop> {
+/// 02, K2: the differences are those of the field for 4, 8 and 9, and modulo p for every other p.
+fn check_matrix(number: usize, p: u8, columns: &[&[u8]]) -> Result<(), Stop> {
+    let modulo_p = |x: u8, y: u8| if x < y { x + p - y } else { x - y };
+    match p {
+        4 | 8 => check_differences(number, p, columns, |x, y| x ^ y),
+        9 => check_differences(number, p, columns, nine::difference),
+        _ => check_differences(number, p, columns, modulo_p),
+    }
+}
+
+fn check_differences(
+    number: usize,
+    p: u8,
+    columns: &[&[u8]],
+    difference: impl Fn(u8, u8) -> u8,
+) -> Result<(), Stop> {
+    let p = usize::from(p);
     let mut counters = [0; 4_096];
     for (a, b) in pairs(columns.len()) {
         let rows = columns[a].iter().zip(columns[b]);
-        let keys = rows.map(|(&x, &y)| {
-            let (x, y) = (usize::from(x), usize::from(y));
-            if x < y {
-                x + p - y
-            } else {
-                x - y
-            }
-        });
+        let keys = rows.map(|(&x, &y)| usize::from(difference(x, y)));
         if let Some((difference, times)) = deviation(keys, p, columns[a].len(), &mut counters) {
             let numbers = [6, number, a + 1, b + 1, difference, times, 0];
             return Err(Stop::Refused(numbers));
