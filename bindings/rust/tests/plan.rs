@@ -1,4 +1,4 @@
-//! Orders planned through the static library: those of document 01, "Counted examples" and "Printed runs", and the spare of document 02.
+//! Orders planned through the static library: those of document 01, "Counted examples" and "Printed runs", and the spare and the sums of document 02.
 use yurbantze::{plan, plan_into, Refusal, Size, Table, LEVELS_LENGTH, SCRATCH_LENGTH, TABLE_LENGTH};
 
 fn runs(table: &Table) -> Vec<Vec<u8>> {
@@ -46,6 +46,18 @@ fn spares() {
     // One column of 4 levels, and SPLIT of it by one of 2.
     assert_eq!(spare(&[1, 1, 4, 1, 4, 0, 1, 2, 3, 1, 1, 1]), 0);
     assert_eq!(spare(&[2, 1, 4, 1, 4, 0, 1, 2, 3, 1, 4, 1, 2, 0, 0, 1, 1, 2, 1, 1, 5, 1, 2]), 2);
+}
+
+#[test]
+fn a_matrix_over_the_field_of_four() {
+    // Rows 0000, 0123, 0231, 0312 with p = 4, and the column 0, 1, 2, 3.
+    let list = [2, 1, 4, 1, 4, 0, 1, 2, 3, 2, 4, 4, 4, 0, 0, 0, 0, 0, 1, 2, 3, 0, 2, 3, 1, 0, 3, 1, 2, 2, 1, 1, 3, 1, 2, 0];
+    let table = plan(&list).expect("the order is filled");
+    assert_eq!(table.levels(), [4, 4, 4, 4]);
+    assert_eq!(runs(&table)[12..], [[3, 3, 3, 3], [3, 2, 1, 0], [3, 1, 0, 2], [3, 0, 2, 1]]);
+    // Rows 00, 12, 02, 03 are a difference matrix modulo 4 alone.
+    let list = [1, 2, 4, 2, 4, 0, 0, 1, 2, 0, 2, 0, 3, 1, 1, 101];
+    assert_eq!(plan(&list), Err(Refusal::UnevenDifference { ingredient: 1, first: 1, second: 2, difference: 1, times: 0 }));
 }
 
 // The exported function itself: a refusal of the package has no spare that could be looked at.
