@@ -90,9 +90,9 @@ pub over-size : (p : ℕ) → T (overField p) → T (fieldSize p)
 unfolding fieldSize
 over-size = over-each (λ p. T (fieldSize p)) tt tt tt
 
-pub levels : (p : ℕ) → 0 < p → AbelianGroup p (levelSum p)
+pub level-group : (p : ℕ) → 0 < p → AbelianGroup p (levelSum p)
 unfolding levelSum
-levels p positive = pick (overField p) refl
+level-group p positive = pick (overField p) refl
   where
     pick : (over : Bool) → overField p ≡ over → AbelianGroup p (λ a b. cond over (fieldSum p a b) ((a + b) % p))
     pick true e = field p (over-size p (subst⁻¹ T e tt)) .group
@@ -101,7 +101,7 @@ levels p positive = pick (overField p) refl
 -- for every p a difference is what, added to the second, gives the first
 pub level-restores : (p : ℕ) {a b : ℕ} → a < p → b < p → levelSum p (levelDifference p a b) b ≡ a
 unfolding levelDifference
-level-restores p ha hb = difference-restores (levels p (omega arith)) ha hb
+level-restores p ha hb = difference-restores (level-group p (omega arith)) ha hb
 
 pub level-difference-below : (p a b : ℕ) → 0 < p → levelDifference p a b < p
 unfolding levelDifference
@@ -121,7 +121,7 @@ module _ (p a b : ℕ) where
   unfolding levelDifference levelSum
   difference-modulo e ha hb =
       difference-only
-      (levels p (omega arith))
+      (level-group p (omega arith))
       ha
       hb
       (mod-lt (a + (p - b)) (omega arith))

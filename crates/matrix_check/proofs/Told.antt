@@ -12,7 +12,7 @@ use lib.ListN.{length, getD, set, replicate, length-replicate, length-set}
 use lib.Seq.{getD-set-same, getD-set-other}
 use Rattle.galois.specs.Levels.{levelSum, levelDifference}
 use Rattle.galois.proofs.Derived.{cancel-right}
-use Rattle.galois.proofs.Levels.{levels, level-restores, level-difference-below}
+use Rattle.galois.proofs.Levels.{level-group, level-restores, level-difference-below}
 use Rattle.matrix_check.specs.Differences.{DifferencesOf}
 
 -- where sum number q, that of q / p and q % p, has its difference
@@ -32,7 +32,7 @@ module _ {p : ℕ} (positive : 0 < p) where
   quotient-below h = div-lt-iff-lt-mul positive .1 h
 
   pub told-in : {q : ℕ} → q < p * p → toldAt p q < p * p
-  told-in {q} h = digits-lt (levels p positive .sums .closed (quotient-below h) (mod-lt q positive)) (mod-lt q positive)
+  told-in {q} h = digits-lt (level-group p positive .sums .closed (quotient-below h) (mod-lt q positive)) (mod-lt q positive)
 
   -- no place is told two differences
   told-once : {q r : ℕ} → q < p * p → r < p * p → toldAt p q ≡ toldAt p r → q / p ≡ r / p
@@ -42,7 +42,7 @@ module _ {p : ℕ} (positive : 0 < p) where
       sym (digits-div _ (mod-lt q positive)) ∙ ap (λ n. n / p) e ∙ digits-div _ (mod-lt r positive)
       in
       cancel-right
-      (levels p positive)
+      (level-group p positive)
       (quotient-below h)
       (quotient-below k)
       (mod-lt q positive)

@@ -11,7 +11,7 @@ use Rattle.finite.proofs.Counts.{count-ext}
 use Rattle.galois.specs.Laws.{AbelianGroup}
 use Rattle.galois.specs.Levels.{differenceIn, levelSum, levelDifference}
 use Rattle.galois.proofs.Derived.{subtract-add}
-use Rattle.galois.proofs.Levels.{difference-below, difference-only, difference-is, levels}
+use Rattle.galois.proofs.Levels.{difference-below, difference-only, difference-is, level-group}
 use Rattle.counting.specs.Matrix.{Matrix, MatrixInRange, rowDifference, differences, DifferenceMatrix}
 
 module _ (n : ℕ) (plus : ℕ → ℕ → ℕ) (group : AbelianGroup n plus) where
@@ -60,7 +60,7 @@ unfolding GroupDifferences DifferenceMatrix differences rowDifference MatrixInRa
 level-differences D below even c d v h k l =
     ap
     (λ n. D .modulus * n)
-    (count-ext (D .rows) (λ y m. difference-is (levels (D .modulus) (omega arith)) (below y c m (lt-trans h k)) (below y d m k) l))
+    (count-ext (D .rows) (λ y m. difference-is (level-group (D .modulus) (omega arith)) (below y c m (lt-trans h k)) (below y d m k) l))
     ∙ even c d v h k l
 
 -- a group for each p, given by its sum

@@ -20,7 +20,7 @@ use Rattle.finite.proofs.Sums.{sum-ext}
 use Rattle.finite.proofs.Counts.{count-ext, count-and, count-product, count-exchange, sum-passing}
 use Rattle.finite.proofs.Lists.{length-from}
 use Rattle.galois.specs.Laws.{AbelianGroup}
-use Rattle.galois.proofs.Levels.{levels}
+use Rattle.galois.proofs.Levels.{level-group}
 use Rattle.counting.specs.Matrix.{Matrix, MatrixInRange}
 use Rattle.counting.specs.Table.{Table, columns, levelsOf, Setting, shows, times, combinations, Apart, Settings, InRange, Even}
 use Rattle.step_tables.specs.Lists.{Distinct}
@@ -475,7 +475,7 @@ pub sum-leaves : (Ds : List Matrix) (k : Option Table) (S : Table) → SumFits D
 sum-leaves Ds k S fits passing tables sheet =
     group-sum-leaves
     levelSum
-    levels
+    level-group
     Ds
     (adjoinedTable (rowsOf Ds) k)
     S
