@@ -8,12 +8,9 @@ use native.Mathlib.Numerals.{lt-of-le-of-ne}
 use native.Mathlib.Decide.{ℕ-discrete}
 use native.Mathlib.Omega.{arith}
 use lib.Arith.{digits-lt, digits-div, digits-mod}
-use lib.ListN.{getD, set, replicate, length-replicate, length-set}
+use lib.ListN.{getD, set, length-set}
 use lib.Seq.{getD-set-same, getD-set-other}
 use Rattle.finite.specs.Tabulated.{Tabulated}
-
-pub tabulated-none : (f : ℕ → ℕ) → Tabulated f 0 (replicate 4096 0)
-tabulated-none f = record { places = length-replicate {A = ℕ} 4096 0; each = λ q h. absurd (omega arith) }
 
 -- one value more
 pub tabulated-more : {f : ℕ → ℕ} {n value : ℕ} {values : List ℕ} → Tabulated f n values → n < 4096 → value ≡ f n
