@@ -1,14 +1,12 @@
 -- Laws of the sheet in hand: where it lies in the buffers, and that another that was built in the scratch takes its place.
 -- Assumes nothing.
 use mathlib.Core.Path.{_≡_, sym, _∙_, ap, ap₂}
-use mathlib.Core.Logic.{by-cases}
-use mathlib.Core.List.{List, _++_, map, flatMap}
+use mathlib.Core.List.{List, map, flatMap}
 use Prim.Native.Nat.{ℕ, _+_, _-_, _*_, _≤_, _<_}
 use native.Mathlib.Nat.{le-trans, mul-le-mul}
-use native.Mathlib.Decide.{decLt}
 use native.Mathlib.Omega.{arith}
-use lib.ListN.{length, getD, take, drop, length-append, length-replicate, getD-replicate, List·getD-append, List·getD-eq-default}
-use lib.Seq.{length-take-le, take-at, drop-at, getD-take, getD-append-add}
+use lib.ListN.{length, getD, take, drop}
+use lib.Seq.{length-take-le, getD-take}
 use Rattle.finite.specs.Lists.{from}
 use Rattle.buffers.specs.Put.{Put}
 use Rattle.buffers.proofs.Puts.{put-front}
@@ -18,45 +16,11 @@ use Rattle.step_tables.proofs.Agreement.{agree-columns}
 use Rattle.spare.specs.Spare.{spareOf, spare}
 use Rattle.sheets.specs.declared.answer.Answer.{Answer}
 use Rattle.sheets.specs.declared.answer.Answer.the-variants.{Filled}
-use Rattle.layout.specs.Bytes.{runOf, runsOf, zeros, padded, Holds, Zeros, sheetIn}
+use Rattle.layout.specs.Bytes.{runOf, runsOf, padded, Holds, Zeros, sheetIn}
 use Rattle.layout.specs.Step.{Ready}
 use Rattle.layout.specs.declared.Size.{Size}
-use Rattle.layout.proofs.Bytes.{map-below, flatMap-same, put-padded, zeros-all, runs-length, runs-cell}
-
--- ---- padded buffers
-
-pub padded-length : (n : ℕ) (xs : List ℕ) → length xs ≤ n → length (padded n xs) ≡ n
-unfolding padded
-padded-length n xs h =
-    length-append xs (zeros (n - length xs)) ∙ omega (arith, length-replicate {A = ℕ} (n - length xs) 0)
-
-pub zero-at : (n k : ℕ) → getD (zeros n) k 0 ≡ 0
-zero-at n k = by-cases (decLt k n) (λ h. getD-replicate n k 0 0 h) (λ h. List·getD-eq-default (zeros n) 0 {n = k} (omega (arith, length-replicate {A = ℕ} n 0)))
-
-pub padded-at : (n : ℕ) (xs : List ℕ) (k : ℕ) → getD (padded n xs) k 0 ≡ getD xs k 0
-unfolding padded
-padded-at n xs k =
-    by-cases (decLt k (length xs))
-    (λ (h : k < length xs). List·getD-append xs (zeros (n - length xs)) 0 k h)
-    (λ h.
-    let there : k ≡ length xs + (k - length xs) = omega arith in
-    ap (λ (i : ℕ). getD (xs ++ zeros (n - length xs)) i 0) there
-    ∙ getD-append-add xs (zeros (n - length xs)) (k - length xs) 0
-    ∙ zero-at (n - length xs) (k - length xs)
-    ∙ sym (List·getD-eq-default xs 0 {n = k} (omega arith)))
-
-pub padded-front : (n k : ℕ) (xs : List ℕ) → length xs ≡ k → take k (padded n xs) ≡ xs
-unfolding padded
-padded-front n k xs e = take-at xs (zeros (n - length xs)) k e
-
-pub padded-after : (n k : ℕ) (xs : List ℕ) → length xs ≡ k → Zeros (drop k (padded n xs))
-unfolding padded
-padded-after n k xs e = zeros-all (n - length xs) (drop-at xs (zeros (n - length xs)) k e)
-
--- what a buffer has at its front lies within it
-pub padded-within : (bytes front : List ℕ) → bytes ≡ padded (length bytes) front → length front ≤ length bytes
-unfolding padded
-padded-within bytes front e = omega (arith, simp length-append at (ap length e))
+use Rattle.layout.proofs.Bytes.{map-below, flatMap-same, put-padded, runs-length, runs-cell}
+pub use Rattle.pieces.proofs.Padded.{padded-length, zero-at, padded-at, padded-front, padded-after, padded-within}
 
 -- ---- the sheet in hand
 

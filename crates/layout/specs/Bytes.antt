@@ -1,13 +1,15 @@
 -- The bytes that hold a table: document 01, after "The questions". "Filled: N, m, the table run by run from byte 0, the m level counts; all other
 -- bytes of both buffers are zero, and the scratch is zero after every call."
 use mathlib.Core.Path.{_≡_}
-use mathlib.Core.List.{List, _++_, map, flatMap}
-use Prim.Native.Nat.{ℕ, _-_}
-use lib.ListN.{length, take, replicate}
+use mathlib.Core.List.{List, map, flatMap}
+use Prim.Native.Nat.{ℕ}
+use lib.ListN.{length, take}
 use Rattle.finite.specs.Lists.{from}
 use Rattle.counting.specs.Table.{Table, columns, tableOf}
 use Rattle.sheets.specs.Buffers.{Lengths, Suffices}
 use Rattle.layout.specs.declared.Size.{Size}
+pub use Rattle.pieces.specs.Padded.{zeros}
+unfoldable pub use Rattle.pieces.specs.Padded.{padded, Zeros}
 
 -- run r, level by level
 unfoldable pub runOf : Table → ℕ → List ℕ
@@ -17,22 +19,10 @@ runOf S r = map (S .cell r) (from 0 (columns S))
 unfoldable pub runsOf : Table → List ℕ
 runsOf S = flatMap (runOf S) (from 0 (S .runs))
 
--- n zeros
-abbrev pub zeros : ℕ → List ℕ
-zeros n = replicate n 0
-
--- a buffer of n bytes with some at its front and zeros after them
-unfoldable pub padded : ℕ → List ℕ → List ℕ
-padded n bytes = bytes ++ zeros (n - length bytes)
-
 -- the run table and the level list hold the table S and nothing else
 pub record Holds (S : Table) (table levels : List ℕ) : Type 0 where
   pub runs-first : table ≡ padded (length table) (runsOf S)
   pub levels-first : levels ≡ padded (length levels) (S .levels)
-
--- zeros throughout
-unfoldable pub Zeros : List ℕ → Type 0
-Zeros bytes = bytes ≡ zeros (length bytes)
 
 -- the lengths of the three buffers
 abbrev pub lengthsOf : List ℕ → List ℕ → List ℕ → Lengths
