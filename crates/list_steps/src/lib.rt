@@ -7,7 +7,7 @@ ghost use Rattle.order.specs.Reader.{allowed, repeated};
 ghost use Rattle.order.specs.Grammar.{ingredientNumber, counted, readSum, readMerge, readSplit, stepOf, readStep};
 ghost use Rattle.order.specs.Answers.{stageOf, walkAfter, walkOf};
 use list_numbers::number;
-use list_numbers::series;
+use list_series::series;
 use operand_numbers::ingredient_number;
 use operand_numbers::ingredient_numbers;
 use operand_numbers::merge_prime;

@@ -1,4 +1,4 @@
--- `list_numbers::skip` meets its contract: the numbers that remain decide the test of `numbers`.
+-- `list_series::skip` meets its contract: the numbers that remain decide the test of `numbers`.
 use Prim.Native.Nat.{_-_, _≤_, _<_}
 use native.Mathlib.Omega.{arith}
 use lib.ListN.{length}
@@ -7,8 +7,8 @@ use borrow.Author.Tests.{le-leb, lt-leb}
 use Rattle.order.specs.Answers.{walkOf}
 use Rattle.order.specs.Reader.{numbers}
 use borrow.Author.Needs.{needs}
-use Rattle.list_numbers.proofs.skip.Statement.{statement}
-use Rattle.list_numbers.proofs.skip.Tie as tie
+use Rattle.list_series.proofs.skip.Statement.{statement}
+use Rattle.list_series.proofs.skip.Tie as tie
 
 remaining-requires : tie.Need-remaining-requires
 remaining-requires c κs = search needs

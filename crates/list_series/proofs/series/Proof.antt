@@ -1,4 +1,4 @@
--- `list_numbers::series` meets its contract. The invariant: reading what is left from the cursor on gives the answer of the whole.
+-- `list_series::series` meets its contract. The invariant: reading what is left from the cursor on gives the answer of the whole.
 use mathlib.Core.Path.{_≡_, refl, sym, _∙_}
 use denote.Ref.{now}
 use borrow.Author.Needs.{needs}
@@ -6,8 +6,8 @@ use Rattle.order.specs.Reader.{allowed, repeated}
 use Rattle.order.specs.Grammar.{between}
 use Rattle.order.specs.Answers.{walkOf}
 use Rattle.order.proofs.Answers.{number-value, number-refused, times-on, times-refused, times-done}
-use Rattle.list_numbers.proofs.series.Statement.{statement}
-use Rattle.list_numbers.proofs.series.Tie as tie
+use Rattle.list_series.proofs.series.Statement.{statement}
+use Rattle.list_series.proofs.series.Tie as tie
 
 abbrev Inv-loop : tie.InvT-loop
 Inv-loop list n low high c₀ left₀ c left =
