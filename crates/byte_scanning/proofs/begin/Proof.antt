@@ -1,9 +1,9 @@
--- `scanning::begin` meets its contract: its test is that of `begun`.
+-- `byte_scanning::begin` meets its contract: its test is that of `begun`.
 use borrow.Author.Needs.{needs}
 use borrow.Author.Tests.{lt-ltb, le-ltb}
 use Rattle.words.specs.Scanner.{begun}
-use Rattle.scanning.proofs.begin.Statement.{statement}
-use Rattle.scanning.proofs.begin.Tie as tie
+use Rattle.byte_scanning.proofs.begin.Statement.{statement}
+use Rattle.byte_scanning.proofs.begin.Tie as tie
 
 returns : tie.Need-returns
 unfolding begun

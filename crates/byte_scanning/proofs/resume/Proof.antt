@@ -1,9 +1,9 @@
--- `scanning::resume` meets its contract: each arm is a case of `resumed`.
+-- `byte_scanning::resume` meets its contract: each arm is a case of `resumed`.
 use mathlib.Core.Path.{ap, sym}
 use borrow.Author.Needs.{needs}
 use Rattle.words.specs.Scanner.{resumed}
-use Rattle.scanning.proofs.resume.Statement.{statement}
-use Rattle.scanning.proofs.resume.Tie as tie
+use Rattle.byte_scanning.proofs.resume.Statement.{statement}
+use Rattle.byte_scanning.proofs.resume.Tie as tie
 
 enum-known-word : tie.Need-enum-known-word
 enum-known-word c = search needs

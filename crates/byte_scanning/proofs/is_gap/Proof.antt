@@ -1,12 +1,12 @@
--- `scanning::is_gap` meets its contract: the first two tests come to one flag, and the third decides where that is false.
+-- `byte_scanning::is_gap` meets its contract: the first two tests come to one flag, and the third decides where that is false.
 use mathlib.Core.Path.{_≡_, _∙_}
 use mathlib.Core.Bool.{_||_}
 use mathlib.Core.Logic.{⊎-elim}
 use borrow.Author.Tests.{eq-eqb, ne-eqb}
 use lib.Dec.{eqb}
 use Rattle.words.specs.Words.{isGap}
-use Rattle.scanning.proofs.is_gap.Statement.{statement}
-use Rattle.scanning.proofs.is_gap.Tie as tie
+use Rattle.byte_scanning.proofs.is_gap.Statement.{statement}
+use Rattle.byte_scanning.proofs.is_gap.Tie as tie
 
 first-two : (c : tie.Joined1) → c .if1 .if2 ≡ (eqb (c .before .args .byte) 32 || eqb (c .before .args .byte) 9)
 first-two c =

@@ -1,10 +1,10 @@
--- `scanning::grow` meets its contract: the tests on the way to each return say which case of `grown` holds.
+-- `byte_scanning::grow` meets its contract: the tests on the way to each return say which case of `grown` holds.
 use borrow.Author.Needs.{needs}
 use borrow.Author.Tests.{le-leb, lt-leb}
 use Rattle.words.specs.Words.{isDigit}
 use Rattle.words.specs.Scanner.{grown}
-use Rattle.scanning.proofs.grow.Statement.{statement}
-use Rattle.scanning.proofs.grow.Tie as tie
+use Rattle.byte_scanning.proofs.grow.Statement.{statement}
+use Rattle.byte_scanning.proofs.grow.Tie as tie
 
 returns : tie.Need-returns
 unfolding grown isDigit

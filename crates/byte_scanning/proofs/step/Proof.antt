@@ -1,9 +1,9 @@
--- `scanning::step` meets its contract: each arm of the match is one of the cases of `stepped`, by the byte that `is_gap` has tested.
+-- `byte_scanning::step` meets its contract: each arm of the match is one of the cases of `stepped`, by the byte that `is_gap` has tested.
 use mathlib.Core.Path.{_∙_, ap, sym}
 use Rattle.words.proofs.Steps.{skips, begins, ends, grows, stays}
 use borrow.Author.Needs.{needs}
-use Rattle.scanning.proofs.step.Statement.{statement}
-use Rattle.scanning.proofs.step.Tie as tie
+use Rattle.byte_scanning.proofs.step.Statement.{statement}
+use Rattle.byte_scanning.proofs.step.Tie as tie
 
 is-gap-requires : tie.Need-is-gap-requires
 is-gap-requires c κs = search needs

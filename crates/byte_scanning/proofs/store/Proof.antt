@@ -1,9 +1,9 @@
--- `scanning::store` meets its contract: its test is that of `stored`.
+-- `byte_scanning::store` meets its contract: its test is that of `stored`.
 use borrow.Author.Needs.{needs}
 use borrow.Author.Tests.{lt-ltb, le-ltb}
 use Rattle.words.specs.Scanner.{stored}
-use Rattle.scanning.proofs.store.Statement.{statement}
-use Rattle.scanning.proofs.store.Tie as tie
+use Rattle.byte_scanning.proofs.store.Statement.{statement}
+use Rattle.byte_scanning.proofs.store.Tie as tie
 
 mul-list : tie.Need-mul-list
 mul-list c = search needs
