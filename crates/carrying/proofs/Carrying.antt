@@ -13,7 +13,7 @@ use Rattle.counting.specs.Table.{Table, columns}
 use Rattle.order.specs.Order.{Order, Step, StepLimits}
 use Rattle.order.specs.Grammar.{readOrder}
 use Rattle.order.proofs.OrderLaw.{reads-iff}
-use Rattle.places.specs.Places.{stepCount}
+use Rattle.step_places.specs.StepCount.{stepCount}
 use Rattle.sheets.specs.Buffers.{Suffices}
 use Rattle.step_tables.specs.Sheet.{LevelsAtMost, Sound, SmallEnough, Agree}
 use Rattle.spare.specs.Spare.{spareOf, spare}

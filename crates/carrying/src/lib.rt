@@ -6,8 +6,8 @@ ghost use Rattle.carrying.specs.Carrying.{Passing, allIn, lastIn, handRu
 ghost use Rattle.promise.specs.Promise.{Settled};
 use buffers::clear;
 use layout::Size;
-use places::step_count;
 use sheets::answer::Answer;
+use step_places::step_count;
 use stepping::proceed;
 
 // All steps, in turn. There is no sheet in hand at the start; a step that refuses the order leaves the one before it.

@@ -5,13 +5,13 @@ ghost use lib.ListN.{length, replicate};
 ghost use Rattle.order.specs.Grammar.{readOrder};
 ghost use Rattle.order.specs.Range.{isInRange, rangeOf};
 ghost use Rattle.entry_range.specs.Search.{highInRow, highInRows, Inside, locatedRange, scanned};
+use ingredient_places::ingredients_start;
 use list_ingredients::ingredient;
 use order::Cursor;
 use order::Entries;
 use order::Located;
 use order::Number;
 use order::Spot;
-use places::ingredients_start;
 
 // Question 3: is every entry below its levels, p or s?
 pub fn first_out_of_range(list: &[u16]) -> Entries

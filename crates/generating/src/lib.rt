@@ -15,8 +15,8 @@ ghost use Rattle.generating.specs.FieldPlaces.{FieldStands, ColumnsIn, f
 ghost use Rattle.generating.specs.LevelSums.{SumsOf, WidthsTo, Sums, single, Leads, RunsBefore, SumsStand, runSum};
 use buffers::put_byte;
 use finite::power;
+use ingredient_places::ingredient_at;
 use order::Located;
-use places::ingredient_at;
 use sheets::answer::Answer;
 use sheets::answer::Refusal;
 use spare::sheet_answer;

@@ -2,8 +2,8 @@
 ghost use mathlib.Core.Path.{_≡_};
 ghost use Rattle.order.specs.Grammar.{readOrder};
 ghost use Rattle.ingredients.specs.Named.{namedTable};
+use ingredient_places::ingredient_at;
 use order::Located;
-use places::ingredient_at;
 
 pub enum NamedTable {
     Own {

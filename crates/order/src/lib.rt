@@ -1,5 +1,6 @@
 // What the questions on the list of an order answer (document 01, "The order"; questions 2 and 3). The order itself, the list that writes it and the reader are
-// definitions in specs/; the crates `list_numbers`, `list_series`, `list_ingredients`, `list_steps`, `reading`, `places` and `entry_range` have the code.
+// definitions in specs/; the crates `list_numbers`, `list_series`, `list_ingredients`, `list_steps`, `reading`, `ingredient_places`,
+// `step_places` and `entry_range` have the code.
 
 // A place in the list.
 pub struct Cursor {

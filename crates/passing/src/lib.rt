@@ -12,12 +12,12 @@ use counting::verdict::MatrixFinding;
 use counting::verdict::TableFault;
 use counting::verdict::TableFinding;
 use counting::verdict::TableVerdict;
+use ingredient_places::ingredient_at;
+use ingredient_places::ingredient_count;
 use list_verdicts::generator_finding;
 use list_verdicts::matrix_finding;
 use list_verdicts::table_verdict;
 use order::Located;
-use places::ingredient_at;
-use places::ingredient_count;
 use question_4::Passing;
 use sheets::answer::Refusal;
 

@@ -69,9 +69,6 @@ stepsStart p = startOf stepsOf firstStepPlace p
 unfoldable pub ingredientCount : Parsed Order → ℕ
 ingredientCount p = countOf ingredientsOf p
 
-unfoldable pub stepCount : Parsed Order → ℕ
-stepCount p = countOf stepsOf p
-
 -- An ingredient by its place: its sizes, and where its numbers start.
 abbrev pub ingredientFrom : ℕ → Ingredient → Located
 ingredientFrom at g = located (at + 3) g

@@ -8,10 +8,10 @@ use generating::field;
 use layout::Size;
 use merging::merge;
 use places::Placed;
-use places::step_at;
 use sheets::answer::Answer;
 use sheets::answer::Refusal;
 use splitting::split;
+use step_places::step_at;
 use summing::sum;
 use taking::take;
 

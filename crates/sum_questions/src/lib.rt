@@ -15,9 +15,9 @@ ghost use Rattle.step_tables.specs.Sum.{adjoinedTable};
 ghost use Rattle.layout.specs.Bytes.{zeros};
 ghost use Rattle.layout.specs.Step.{Readable};
 ghost use Rattle.sum_bytes.specs.Summing.{matrixPlace, matrixAt, matricesAt, fitTogether, partsFit, Serves, isMissing};
+use ingredient_places::ingredient_at;
 use ingredients::named::NamedTable;
 use order::Located;
-use places::ingredient_at;
 use sum_bytes::MatrixPlace;
 use table_reading::run_count;
 

@@ -10,7 +10,7 @@ use mir.Syntax.{w64}
 use mir.Val.{SFits}
 use lib.ListN.{length}
 use Rattle.order.specs.Grammar.{readOrder}
-use Rattle.places.specs.Places.{stepCount}
+use Rattle.step_places.specs.StepCount.{stepCount}
 use Rattle.layout.specs.declared.Size.{Size}
 use Rattle.carrying.proofs.Carrying.{Underway, underway-start, underway-numbered, underway-prepared, steps-counted, steps-few, step-refused, step-filled, none-left}
 use Rattle.carrying.proofs.carry_out.Statement.{statement}

@@ -1,4 +1,4 @@
--- `places::ingredient_at` meets its contract: a number past the last has no ingredient, and any other stands after those before it.
+-- `ingredient_places::ingredient_at` meets its contract: a number past the last has no ingredient, and any other stands after those before it.
 use mathlib.Core.Path.{_≡_, sym, _∙_}
 use native.Mathlib.Omega.{arith}
 use denote.Ref.{now}
@@ -8,11 +8,11 @@ use Rattle.order.specs.declared.Number.the-variants.{Is}
 use Rattle.order.specs.declared.Located.the-variants.{Missing}
 use Rattle.order.proofs.IngredientLaw.{ingredient-law}
 use borrow.Author.Needs.{needs}
 use Rattle.places.specs.Places.{startOf, ingredientsOf, firstIngredientPlace, ingredientsStart, ingredientFrom, ingredientAt, ingredientAfter}
 use Rattle.places.proofs.Parts.{ingredients-times}
 use Rattle.places.proofs.Lookups.{item-zero, item-past, item-found, item-refused}
-use Rattle.places.proofs.ingredient_at.Statement.{statement}
-use Rattle.places.proofs.ingredient_at.Tie as tie
+use Rattle.ingredient_places.proofs.ingredient_at.Statement.{statement}
+use Rattle.ingredient_places.proofs.ingredient_at.Tie as tie
 
 ingredients-start-requires : tie.Need-ingredients-start-requires
 ingredients-start-requires c κs = search needs

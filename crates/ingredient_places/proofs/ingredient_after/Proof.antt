@@ -1,14 +1,14 @@
--- `places::ingredient_after` meets its contract: k ingredients are passed over, and the next one is read.
+-- `ingredient_places::ingredient_after` meets its contract: k ingredients are passed over, and the next one is read.
 use mathlib.Core.Path.{sym, _∙_}
 use denote.Ref.{now}
 use Rattle.order.specs.Grammar.{readIngredient}
 use Rattle.order.specs.declared.Located.the-variants.{Missing}
 use Rattle.order.proofs.Answers.{spot-value, spot-refused}
 use borrow.Author.Needs.{needs}
 use Rattle.places.specs.Places.{ingredientFrom, ingredientAfter}
 use Rattle.places.proofs.Lookups.{nth-found, nth-refused, nth-stopped}
-use Rattle.places.proofs.ingredient_after.Statement.{statement}
-use Rattle.places.proofs.ingredient_after.Tie as tie
+use Rattle.ingredient_places.proofs.ingredient_after.Statement.{statement}
+use Rattle.ingredient_places.proofs.ingredient_after.Tie as tie
 
 ingredients-requires : tie.Need-ingredients-requires
 ingredients-requires c κs = search needs

@@ -1,10 +1,10 @@
--- `places::steps_start` meets its contract: the number of steps stands after the ingredients.
+-- `step_places::steps_start` meets its contract: the number of steps stands after the ingredients.
 use mathlib.Core.Path.{sym, _∙_}
 use denote.Ref.{now}
 use borrow.Author.Needs.{needs}
 use Rattle.places.proofs.Lookups.{steps-start, steps-refused, ingredients-read}
-use Rattle.places.proofs.steps_start.Statement.{statement}
-use Rattle.places.proofs.steps_start.Tie as tie
+use Rattle.step_places.proofs.steps_start.Statement.{statement}
+use Rattle.step_places.proofs.steps_start.Tie as tie
 
 read-requires : tie.Need-read-requires
 read-requires c κs = search needs

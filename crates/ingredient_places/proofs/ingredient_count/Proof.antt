@@ -1,12 +1,12 @@
--- `places::ingredient_count` meets its contract, from the start of the ingredients.
+-- `ingredient_places::ingredient_count` meets its contract, from the start of the ingredients.
 use mathlib.Core.Path.{sym, _∙_}
 use denote.Ref.{now}
 use Rattle.order.specs.Grammar.{readOrder}
 use borrow.Author.Needs.{needs}
 use Rattle.places.specs.Places.{ingredientsOf, firstIngredientPlace, ingredientsStart, ingredientCount}
 use Rattle.places.proofs.Lookups.{count-is, count-none}
-use Rattle.places.proofs.ingredient_count.Statement.{statement}
-use Rattle.places.proofs.ingredient_count.Tie as tie
+use Rattle.ingredient_places.proofs.ingredient_count.Statement.{statement}
+use Rattle.ingredient_places.proofs.ingredient_count.Tie as tie
 
 ingredients-start-requires : tie.Need-ingredients-start-requires
 ingredients-start-requires c κs = search needs

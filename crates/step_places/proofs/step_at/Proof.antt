@@ -1,4 +1,4 @@
--- `places::step_at` meets its contract: a number past the last has no step, and any other stands after those before it.
+-- `step_places::step_at` meets its contract: a number past the last has no step, and any other stands after those before it.
 use mathlib.Core.Path.{_≡_, sym, _∙_}
 use native.Mathlib.Omega.{arith}
 use denote.Ref.{now}
@@ -7,12 +7,12 @@ use Rattle.order.specs.Grammar.{readOrder}
 use Rattle.order.specs.declared.Number.the-variants.{Is}
 use Rattle.order.proofs.StepLaw.{step-law}
 use borrow.Author.Needs.{needs}
 use Rattle.places.specs.Places.{startOf, stepsOf, firstStepPlace, stepsStart, stepFrom, stepAt, stepAfter}
 use Rattle.places.specs.declared.Placed.the-variants.{Missing}
 use Rattle.places.proofs.Parts.{steps-times}
 use Rattle.places.proofs.Lookups.{item-zero, item-past, item-found, item-refused}
-use Rattle.places.proofs.step_at.Statement.{statement}
-use Rattle.places.proofs.step_at.Tie as tie
+use Rattle.step_places.proofs.step_at.Statement.{statement}
+use Rattle.step_places.proofs.step_at.Tie as tie
 
 steps-start-requires : tie.Need-steps-start-requires
 steps-start-requires c κs = search needs

@@ -1,12 +1,13 @@
--- `places::step_count` meets its contract, from the start of the steps.
+-- `step_places::step_count` meets its contract, from the start of the steps.
 use mathlib.Core.Path.{sym, _∙_}
 use denote.Ref.{now}
 use Rattle.order.specs.Grammar.{readOrder}
 use borrow.Author.Needs.{needs}
-use Rattle.places.specs.Places.{stepsOf, firstStepPlace, stepsStart, stepCount}
+use Rattle.places.specs.Places.{stepsOf, firstStepPlace, stepsStart}
 use Rattle.places.proofs.Lookups.{count-is, count-none}
-use Rattle.places.proofs.step_count.Statement.{statement}
-use Rattle.places.proofs.step_count.Tie as tie
+use Rattle.step_places.specs.StepCount.{stepCount}
+use Rattle.step_places.proofs.step_count.Statement.{statement}
+use Rattle.step_places.proofs.step_count.Tie as tie
 
 steps-start-requires : tie.Need-steps-start-requires
 steps-start-requires c κs = search needs

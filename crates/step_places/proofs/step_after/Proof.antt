@@ -1,14 +1,14 @@
--- `places::step_after` meets its contract: k steps are passed over, and the next one is read.
+-- `step_places::step_after` meets its contract: k steps are passed over, and the next one is read.
 use mathlib.Core.Path.{sym, _∙_}
 use denote.Ref.{now}
 use Rattle.order.specs.Grammar.{readStep}
 use Rattle.order.proofs.Answers.{stage-value, stage-refused}
 use borrow.Author.Needs.{needs}
 use Rattle.places.specs.Places.{stepFrom, stepAfter}
 use Rattle.places.specs.declared.Placed.the-variants.{Missing}
 use Rattle.places.proofs.Lookups.{nth-found, nth-refused, nth-stopped}
-use Rattle.places.proofs.step_after.Statement.{statement}
-use Rattle.places.proofs.step_after.Tie as tie
+use Rattle.step_places.proofs.step_after.Statement.{statement}
+use Rattle.step_places.proofs.step_after.Tie as tie
 
 steps-requires : tie.Need-steps-requires
 steps-requires c κs = search needs

@@ -1,10 +1,10 @@
--- `places::ingredients_start` meets its contract: a list that reads begins with the number of its ingredients.
+-- `ingredient_places::ingredients_start` meets its contract: a list that reads begins with the number of its ingredients.
 use mathlib.Core.Path.{sym, _∙_}
 use denote.Ref.{now}
 use borrow.Author.Needs.{needs}
 use Rattle.places.proofs.Lookups.{ingredients-start, ingredients-refused}
-use Rattle.places.proofs.ingredients_start.Statement.{statement}
-use Rattle.places.proofs.ingredients_start.Tie as tie
+use Rattle.ingredient_places.proofs.ingredients_start.Statement.{statement}
+use Rattle.ingredient_places.proofs.ingredients_start.Tie as tie
 
 read-requires : tie.Need-read-requires
 read-requires c κs = search needs
