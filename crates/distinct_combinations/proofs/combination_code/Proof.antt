@@ -12,8 +12,8 @@ use Rattle.finite.proofs.Fits.{product-fits, run-more, run-end}
 use borrow.Author.Needs.{needs}
 use Rattle.combining.specs.Combining.{noBlock, rowCombination, combinationCode}
 use Rattle.combining.proofs.Combinings.{block-elements}
-use Rattle.generator_check.proofs.combination_code.Statement.{statement}
-use Rattle.generator_check.proofs.combination_code.Tie as tie
+use Rattle.distinct_combinations.proofs.combination_code.Statement.{statement}
+use Rattle.distinct_combinations.proofs.combination_code.Tie as tie
 
 abbrev Inv-loop : tie.InvT-loop
 Inv-loop entries t row s block coefficients none code₀ start₀ i₀ code start i =

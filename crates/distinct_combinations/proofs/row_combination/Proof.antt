@@ -3,8 +3,8 @@
 use Rattle.galois.proofs.Fields.{size-positive}
 use borrow.Author.Needs.{needs}
 use Rattle.combining.proofs.Combinings.{combined-below, row-combined}
-use Rattle.generator_check.proofs.row_combination.Statement.{statement}
-use Rattle.generator_check.proofs.row_combination.Tie as tie
+use Rattle.distinct_combinations.proofs.row_combination.Statement.{statement}
+use Rattle.distinct_combinations.proofs.row_combination.Tie as tie
 
 add-one-start : tie.Need-add-one-start
 add-one-start c = search needs

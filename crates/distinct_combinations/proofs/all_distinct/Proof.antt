@@ -15,8 +15,8 @@ use Rattle.combining.specs.Marks.{Marked}
 use Rattle.combining.proofs.Factors.{one-block}
 use Rattle.combining.proofs.Distinct.{distinct-passes}
 use Rattle.combining.proofs.Marks.{Seen, seen-none, seen-more}
-use Rattle.generator_check.proofs.all_distinct.Statement.{statement}
-use Rattle.generator_check.proofs.all_distinct.Tie as tie
+use Rattle.distinct_combinations.proofs.all_distinct.Statement.{statement}
+use Rattle.distinct_combinations.proofs.all_distinct.Tie as tie
 
 abbrev Inv-loop : tie.InvT-loop
 Inv-loop entries t row s widths seen₀ start₀ factor₀ seen start factor =

@@ -8,8 +8,8 @@ use borrow.Author.Needs.{needs}
 use Rattle.galois.proofs.Fields.{size-positive}
 use Rattle.combining.specs.Combining.{combined}
 use Rattle.combining.proofs.Combinings.{combined-none, combined-more, sum-below, product-below}
-use Rattle.generator_check.proofs.combine.Statement.{statement}
-use Rattle.generator_check.proofs.combine.Tie as tie
+use Rattle.distinct_combinations.proofs.combine.Statement.{statement}
+use Rattle.distinct_combinations.proofs.combine.Tie as tie
 
 abbrev Inv-loop : tie.InvT-loop
 Inv-loop entries start end s rest₀ sum₀ at₀ rest sum at =

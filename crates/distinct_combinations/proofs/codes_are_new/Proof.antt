@@ -12,8 +12,8 @@ use borrow.Author.Needs.{needs}
 use Rattle.combining.specs.Combining.{combinationCode}
 use Rattle.combining.specs.Marks.{NewCodes}
 use Rattle.combining.proofs.Marks.{new-none, new-more}
-use Rattle.generator_check.proofs.codes_are_new.Statement.{statement}
-use Rattle.generator_check.proofs.codes_are_new.Tie as tie
+use Rattle.distinct_combinations.proofs.codes_are_new.Statement.{statement}
+use Rattle.distinct_combinations.proofs.codes_are_new.Tie as tie
 
 abbrev Inv-loop : tie.InvT-loop
 Inv-loop entries t row s block seen₀ end number₀ seen number =
