@@ -26,10 +26,10 @@ use Rattle.sheets.proofs.Carried.{filled-sized}
 use Rattle.sheets.proofs.Ingredients.{InBounds, all-at, all-getD, width-total, field-size, elements-in-range}
 use Rattle.ingredients.proofs.NamedLaws.{listed-at}
 use Rattle.layout.specs.Step.{Readable, Stands, firstIn}
-use Rattle.generating.specs.FieldPlaces.{FieldStands, widthsIn, fieldGenerator}
-use Rattle.generating.specs.declared.GeneratorAt.{GeneratorAt}
+use Rattle.generated_runs.specs.FieldPlaces.{FieldStands, widthsIn, fieldGenerator}
+use Rattle.generated_runs.specs.declared.GeneratorAt.{GeneratorAt}
 use Rattle.layout.proofs.Operands.{list-short, operands-limits, first-in}
-use Rattle.generating.proofs.FieldSheet.{sheetOf, sheet-runs, sheet-columns}
+use Rattle.generated_runs.proofs.FieldSheet.{sheetOf, sheet-runs, sheet-columns}
 
 -- the places of a generator, as a look-up gives them
 abbrev pub placesOf : GeneratorAt → Located

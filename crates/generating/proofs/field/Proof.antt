@@ -6,8 +6,8 @@ use lib.ListN.{getD}
 use Rattle.order.specs.Grammar.{readOrder}
 use Rattle.places.specs.Places.{ingredientAt}
 use Rattle.layout.specs.Step.{Left}
-use Rattle.generating.specs.FieldPlaces.{FieldStands}
-use Rattle.generating.specs.declared.GeneratorAt.{GeneratorAt}
+use Rattle.generated_runs.specs.FieldPlaces.{FieldStands}
+use Rattle.generated_runs.specs.declared.GeneratorAt.{GeneratorAt}
 use Rattle.layout.proofs.Operands.{list-short, operand-in}
 use Rattle.generating.proofs.FieldNamed.{placesOf, field-generator, field-filled, field-refused}
 use borrow.Author.Needs.{needs}

@@ -8,7 +8,7 @@ use Rattle.galois.proofs.Fields.{size-positive}
 use Rattle.layout.specs.Step.{Left}
 use Rattle.layout.proofs.Rows.{put-holds}
 use Rattle.layout.proofs.Sheets.{held-limits, held-answer}
-use Rattle.generating.proofs.FieldSheet.{sheet-runs, sheet-columns}
+use Rattle.generated_runs.proofs.FieldSheet.{sheet-runs, sheet-columns}
 use Rattle.generating.proofs.FieldNamed.{generator-small}
 use Rattle.generating.proofs.fill.Statement.{statement}
 use Rattle.generating.proofs.fill.Tie as tie

@@ -11,8 +11,8 @@ use mir.Val.{Fits}
 use mir.Syntax.{w8}
 use Rattle.galois.specs.Arithmetic.{fieldSum}
 use Rattle.galois.proofs.Fields.{size-positive}
-use Rattle.generating.specs.LevelSums.{SumsOf}
-use Rattle.generating.proofs.LevelSums.{sums-none, earlier-in, sums-more, sum-small}
+use Rattle.generated_runs.specs.LevelSums.{SumsOf}
+use Rattle.generated_runs.proofs.LevelSums.{sums-none, earlier-in, sums-more, sum-small}
 use Rattle.generating.proofs.level_sums.Statement.{statement}
 use Rattle.generating.proofs.level_sums.Tie as tie
 

@@ -9,7 +9,7 @@ use Rattle.galois.proofs.Fields.{size-positive}
 use Rattle.buffers.specs.Put.{Put}
 use Rattle.buffers.proofs.Puts.{put-none, put-length}
 use Rattle.layout.proofs.Rows.{put-numbered, put-all}
-use Rattle.generating.proofs.FieldSheet.{sheetOf, sheet-columns, sheet-level, width-power}
+use Rattle.generated_runs.proofs.FieldSheet.{sheetOf, sheet-columns, sheet-level, width-power}
 use Rattle.generating.proofs.put_levels.Statement.{statement}
 use Rattle.generating.proofs.put_levels.Tie as tie
 

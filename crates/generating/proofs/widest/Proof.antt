@@ -5,8 +5,8 @@ use native.Mathlib.Nat.{pow-zero}
 use native.Mathlib.Omega.{arith}
 use lib.Dec.{lit≤}
 use borrow.Author.Needs.{needs}
-use Rattle.generating.specs.LevelSums.{WidthsTo}
-use Rattle.generating.proofs.FieldSheet.{widthAt, width-power}
+use Rattle.generated_runs.specs.LevelSums.{WidthsTo}
+use Rattle.generated_runs.proofs.FieldSheet.{widthAt, width-power}
 use Rattle.generating.proofs.FieldWidths.{widths-more, power-larger}
 use Rattle.generating.proofs.widest.Statement.{statement}
 use Rattle.generating.proofs.widest.Tie as tie

@@ -15,9 +15,9 @@ use Rattle.counting.specs.Table.{Table, columns, levelsOf}
 use Rattle.step_tables.specs.Field.{fieldTable}
 use Rattle.sheets.specs.Steps.{fieldStep}
 use Rattle.step_tables.proofs.FieldTable.{field-columns, field-levels}
-use Rattle.generating.specs.FieldPlaces.{FieldStands, ColumnsIn, widthsIn, fieldGenerator}
-use Rattle.generating.specs.declared.GeneratorAt.{GeneratorAt}
-use Rattle.generating.proofs.FieldPlaces.{levelAt}
+use Rattle.generated_runs.specs.FieldPlaces.{FieldStands, ColumnsIn, widthsIn, fieldGenerator}
+use Rattle.generated_runs.specs.declared.GeneratorAt.{GeneratorAt}
+use Rattle.generated_runs.proofs.FieldPlaces.{levelAt}
 
 -- the sheet
 abbrev pub sheetOf : List ℕ → GeneratorAt → Table

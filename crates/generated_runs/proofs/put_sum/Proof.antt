@@ -12,9 +12,9 @@ use Rattle.finite.specs.Lists.{from}
 use Rattle.buffers.specs.Put.{Put}
 use Rattle.buffers.proofs.Puts.{put-length, put-before}
 use Rattle.layout.proofs.Rows.{values-none, values-next, values-room}
-use Rattle.generating.specs.LevelSums.{runSum}
-use Rattle.generating.proofs.put_sum.Statement.{statement}
-use Rattle.generating.proofs.put_sum.Tie as tie
+use Rattle.generated_runs.specs.LevelSums.{runSum}
+use Rattle.generated_runs.proofs.put_sum.Statement.{statement}
+use Rattle.generated_runs.proofs.put_sum.Tie as tie
 
 abbrev sumAt : ℕ → List ℕ → List ℕ → ℕ → ℕ → ℕ → ℕ
 sumAt most sums table one other i = getD sums (getD table (one + i) 0 * most + getD table (other + i) 0) 0

@@ -11,10 +11,10 @@ use Rattle.buffers.proofs.Puts.{put-none, put-length}
 use Rattle.layout.specs.Bytes.{runOf}
 use Rattle.layout.proofs.Bytes.{run-length}
 use Rattle.layout.proofs.Rows.{put-room, put-level, put-all}
-use Rattle.generating.specs.LevelSums.{single}
-use Rattle.generating.proofs.FieldSheet.{sheetOf, columnsBefore, sheet-columns, columns-next, factor-columns, sheet-cell}
-use Rattle.generating.proofs.put_multiple.Statement.{statement}
-use Rattle.generating.proofs.put_multiple.Tie as tie
+use Rattle.generated_runs.specs.LevelSums.{single}
+use Rattle.generated_runs.proofs.FieldSheet.{sheetOf, columnsBefore, sheet-columns, columns-next, factor-columns, sheet-cell}
+use Rattle.generated_runs.proofs.put_multiple.Statement.{statement}
+use Rattle.generated_runs.proofs.put_multiple.Tie as tie
 
 abbrev Inv-loop : tie.InvT-loop
 Inv-loop list g row digit table₀ at widths-at place₀ column₀ factor₀ table place column factor =

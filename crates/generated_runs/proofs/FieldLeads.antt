@@ -19,13 +19,13 @@ use Rattle.buffers.specs.Put.{Put}
 use Rattle.layout.specs.Bytes.{runOf}
 use Rattle.buffers.proofs.Puts.{put-front}
 use Rattle.layout.proofs.Bytes.{map-below, pieces-length, pieces-at, run-length, run-at}
-use Rattle.generating.specs.FieldPlaces.{FieldStands}
-use Rattle.generating.specs.LevelSums.{digitSums, WidthsTo, Sums, single, Leads, RunsBefore, SumsStand, runSum}
-use Rattle.generating.specs.declared.GeneratorAt.{GeneratorAt}
-use Rattle.generating.specs.declared.Leading.{Leading}
-use Rattle.generating.proofs.FieldPlaces.{level-below, sum-level}
-use Rattle.generating.proofs.FieldSheet.{sheetOf, columnsBefore, widthAt, sheet-columns, sheet-cell, factor-columns}
-use Rattle.generating.proofs.LevelSums.{sums-stable}
+use Rattle.generated_runs.specs.FieldPlaces.{FieldStands}
+use Rattle.generated_runs.specs.LevelSums.{digitSums, WidthsTo, Sums, single, Leads, RunsBefore, SumsStand, runSum}
+use Rattle.generated_runs.specs.declared.GeneratorAt.{GeneratorAt}
+use Rattle.generated_runs.specs.declared.Leading.{Leading}
+use Rattle.generated_runs.proofs.FieldPlaces.{level-below, sum-level}
+use Rattle.generated_runs.proofs.FieldSheet.{sheetOf, columnsBefore, widthAt, sheet-columns, sheet-cell, factor-columns}
+use Rattle.generated_runs.proofs.LevelSums.{sums-stable}
 
 -- ---- the runs with a single digit
 

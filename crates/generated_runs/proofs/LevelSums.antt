@@ -13,7 +13,7 @@ use Rattle.galois.specs.Arithmetic.{fieldSize, fieldSum, fieldProduct}
 use Rattle.galois.specs.Laws.{Field}
 use Rattle.galois.proofs.Fields.{field}
 use Rattle.galois.proofs.FieldAlgebra.{zero-below, zero-plus, sum-below}
-use Rattle.generating.specs.LevelSums.{digitSums, SumsOf}
+use Rattle.generated_runs.specs.LevelSums.{digitSums, SumsOf}
 
 module _ (s : ℕ) (size : T (fieldSize s)) where
   laws : Field s (fieldSum s) (fieldProduct s)

@@ -22,11 +22,11 @@ use Rattle.galois.proofs.FieldAlgebra.{combination-below}
 use Rattle.counting.specs.Generator.{generatorOf, width, ElementsInRange}
 use Rattle.step_tables.specs.Field.{columnElements, values}
 use Rattle.step_tables.proofs.FieldCount.{values-length, values-below}
-use Rattle.generating.specs.FieldPlaces.{FieldStands, ColumnsIn, fieldGenerator}
-use Rattle.generating.specs.LevelSums.{digitSums, single}
-use Rattle.generating.specs.declared.GeneratorAt.{GeneratorAt}
-use Rattle.generating.proofs.FieldRuns.{level-next}
-use Rattle.generating.proofs.FieldSums.{value-sum, value-single}
+use Rattle.generated_runs.specs.FieldPlaces.{FieldStands, ColumnsIn, fieldGenerator}
+use Rattle.generated_runs.specs.LevelSums.{digitSums, single}
+use Rattle.generated_runs.specs.declared.GeneratorAt.{GeneratorAt}
+use Rattle.generated_runs.proofs.FieldRuns.{level-next}
+use Rattle.generated_runs.proofs.FieldSums.{value-sum, value-single}
 
 -- the place of the element in row r and column c
 abbrev pub elementPlace : GeneratorAt → ℕ → ℕ → ℕ

@@ -12,10 +12,10 @@ use Rattle.finite.specs.Lists.{from}
 use Rattle.finite.proofs.Fits.{run-end}
 use Rattle.galois.specs.Arithmetic.{fieldProduct}
 use Rattle.step_tables.specs.Field.{values}
-use Rattle.generating.specs.LevelSums.{single}
-use Rattle.generating.proofs.FieldPlaces.{levelAt, columnValue, element-in, element-below, single-value, level-more, level-small}
-use Rattle.generating.proofs.multiple_level.Statement.{statement}
-use Rattle.generating.proofs.multiple_level.Tie as tie
+use Rattle.generated_runs.specs.LevelSums.{single}
+use Rattle.generated_runs.proofs.FieldPlaces.{levelAt, columnValue, element-in, element-below, single-value, level-more, level-small}
+use Rattle.generated_runs.proofs.multiple_level.Statement.{statement}
+use Rattle.generated_runs.proofs.multiple_level.Tie as tie
 
 abbrev Inv-loop : tie.InvT-loop
 Inv-loop list g row digit column width start level₀ i₀ level i =

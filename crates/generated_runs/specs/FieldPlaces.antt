@@ -6,7 +6,7 @@ use lib.Dec.{T}
 use lib.ListN.{length, getD, take, drop}
 use Rattle.galois.specs.Arithmetic.{fieldSize}
 use Rattle.counting.specs.Generator.{Generator, generatorOf, width, ElementsInRange}
-use Rattle.generating.specs.declared.GeneratorAt.{GeneratorAt}
+use Rattle.generated_runs.specs.declared.GeneratorAt.{GeneratorAt}
 
 -- the widths of its factors, and the generator
 unfoldable pub widthsIn : List ℕ → GeneratorAt → List ℕ

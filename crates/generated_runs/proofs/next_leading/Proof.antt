@@ -3,9 +3,9 @@
 use native.Mathlib.Nat.{le-refl, le-antisymm}
 use native.Mathlib.Omega.{arith}
 use borrow.Author.Needs.{needs}
-use Rattle.generating.proofs.FieldLeads.{leads-next, row-before, leads-wrap, some-runs, some-span}
-use Rattle.generating.proofs.next_leading.Statement.{statement}
-use Rattle.generating.proofs.next_leading.Tie as tie
+use Rattle.generated_runs.proofs.FieldLeads.{leads-next, row-before, leads-wrap, some-runs, some-span}
+use Rattle.generated_runs.proofs.next_leading.Statement.{statement}
+use Rattle.generated_runs.proofs.next_leading.Tie as tie
 
 add-if1 : tie.Need-add-if1
 add-if1 c =

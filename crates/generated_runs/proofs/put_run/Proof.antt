@@ -4,9 +4,9 @@ use mathlib.Core.Path.{sym}
 use native.Mathlib.Numerals.{lt-of-le-of-ne}
 use native.Mathlib.Omega.{arith}
 use borrow.Author.Needs.{needs}
-use Rattle.generating.proofs.FieldLeads.{lead-single, lead-room, rest-room, sums-stand, run-summed}
-use Rattle.generating.proofs.put_run.Statement.{statement}
-use Rattle.generating.proofs.put_run.Tie as tie
+use Rattle.generated_runs.proofs.FieldLeads.{lead-single, lead-room, rest-room, sums-stand, run-summed}
+use Rattle.generated_runs.proofs.put_run.Statement.{statement}
+use Rattle.generated_runs.proofs.put_run.Tie as tie
 
 put-multiple-requires : tie.Need-put-multiple-requires
 put-multiple-requires c κs =

@@ -13,11 +13,11 @@ use Rattle.buffers.proofs.Puts.{put-none, put-length}
 use Rattle.layout.specs.Bytes.{runOf}
 use Rattle.layout.proofs.Bytes.{run-length}
 use Rattle.layout.proofs.Rows.{pieces-next, pieces-room, pieces-all}
-use Rattle.generating.specs.LevelSums.{Leads}
-use Rattle.generating.proofs.FieldSheet.{sheetOf, sheet-columns, sheet-runs, sheet-fits}
-use Rattle.generating.proofs.FieldLeads.{leads-none, runs-before}
-use Rattle.generating.proofs.put_runs.Statement.{statement}
-use Rattle.generating.proofs.put_runs.Tie as tie
+use Rattle.generated_runs.specs.LevelSums.{Leads}
+use Rattle.generated_runs.proofs.FieldSheet.{sheetOf, sheet-columns, sheet-runs, sheet-fits}
+use Rattle.generated_runs.proofs.FieldLeads.{leads-none, runs-before}
+use Rattle.generated_runs.proofs.put_runs.Statement.{statement}
+use Rattle.generated_runs.proofs.put_runs.Tie as tie
 
 abbrev Inv-loop : tie.InvT-loop
 Inv-loop list g runs most sums table₀ lead₀ place₀ run₀ table lead place run =

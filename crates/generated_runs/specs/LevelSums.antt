@@ -8,8 +8,8 @@ use Rattle.finite.specs.Lists.{from}
 use Rattle.finite.specs.Tabulated.{Tabulated}
 use Rattle.galois.specs.Arithmetic.{fieldSum}
 use Rattle.counting.specs.Table.{Table, columns}
-use Rattle.generating.specs.declared.GeneratorAt.{GeneratorAt}
-use Rattle.generating.specs.declared.Leading.{Leading}
+use Rattle.generated_runs.specs.declared.GeneratorAt.{GeneratorAt}
+use Rattle.generated_runs.specs.declared.Leading.{Leading}
 
 -- the last n digits base s of two numbers, added digit by digit in the field
 unfoldable pub digitSums : ℕ → ℕ → ℕ → ℕ → ℕ
