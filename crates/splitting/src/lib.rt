@@ -17,8 +17,8 @@ use sheets::answer::Refusal;
 use spare::spare_of;
 use split_sheet::split_column;
 use table_putting::put_level_counts;
-use table_reading::column_count;
-use table_reading::run_count;
+use table_sizes::column_count;
+use table_sizes::run_count;
 
 // Question 6, from the level counts of the sheet: is the column on it, and has the table as many runs as the column has levels?
 fn parts_fit(list: &[u16], named: NamedTable, c: usize, levels: &[u8]) -> bool

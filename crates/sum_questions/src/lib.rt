@@ -19,7 +19,7 @@ use ingredient_places::ingredient_at;
 use ingredients::named::NamedTable;
 use order::Located;
 use sum_bytes::MatrixPlace;
-use table_reading::run_count;
+use table_sizes::run_count;
 
 // The matrix that a number names.
 pub fn matrix_named(list: &[u16], d: usize) -> MatrixPlace

@@ -19,7 +19,7 @@ use sum_questions::matrix_named;
 use sum_questions::parts_fit;
 use summed_sheet::build;
 use summed_sheet::summed_columns;
-use table_reading::column_count;
+use table_sizes::column_count;
 
 // Question 8, and then the sheet: is it at most 512 runs and 128 columns?
 fn sized_sum(

@@ -7,10 +7,10 @@ ghost use Rattle.ingredients.specs.Named.{tableIn, Legible};
 ghost use Rattle.layout.specs.Bytes.{runOf, runsOf};
 use buffers::put_byte;
 use ingredients::named::NamedTable;
-use table_reading::column_count;
 use table_reading::level;
 use table_reading::level_count;
-use table_reading::run_count;
+use table_sizes::column_count;
+use table_sizes::run_count;
 
 // Puts the levels of a run; of a table with no columns there are none, whatever the run.
 pub fn put_run(list: &[u16], table: NamedTable, run: usize, buf: &mut [u8], at: usize) -> usize

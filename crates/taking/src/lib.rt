@@ -10,8 +10,8 @@ use sheets::answer::Refusal;
 use spare::sheet_answer;
 use table_putting::put_level_counts;
 use table_putting::put_runs;
-use table_reading::column_count;
-use table_reading::run_count;
+use table_sizes::column_count;
+use table_sizes::run_count;
 
 // A table that is named is never too large: it keeps the limits of the order (question 2).
 pub fn take(list: &[u16], at: usize, table: &mut [u8], levels: &mut [u8]) -> Answer

@@ -1,11 +1,11 @@
--- `table_reading::column_count` meets its contract: a table of the list has as many level counts as it says.
+-- `table_sizes::column_count` meets its contract: a table of the list has as many level counts as it says.
 -- Assumes nothing.
 use mathlib.Core.Path.{sym}
 use Rattle.ingredients.specs.Named.{tableIn, Legible}
 use Rattle.ingredients.proofs.OwnTables.{own-columns}
 use borrow.Author.Needs.{needs}
-use Rattle.table_reading.proofs.column_count.Statement.{statement}
-use Rattle.table_reading.proofs.column_count.Tie as tie
+use Rattle.table_sizes.proofs.column_count.Statement.{statement}
+use Rattle.table_sizes.proofs.column_count.Tie as tie
 
 enum-known-table : tie.Need-enum-known-table
 enum-known-table c = search needs

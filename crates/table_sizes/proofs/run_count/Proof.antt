@@ -1,10 +1,10 @@
--- `table_reading::run_count` meets its contract: each kind of table has its number of runs at hand.
+-- `table_sizes::run_count` meets its contract: each kind of table has its number of runs at hand.
 -- Assumes nothing.
 use Rattle.counting.specs.Table.{tableOf}
 use Rattle.ingredients.specs.Named.{tableIn, Legible}
 use borrow.Author.Needs.{needs}
-use Rattle.table_reading.proofs.run_count.Statement.{statement}
-use Rattle.table_reading.proofs.run_count.Tie as tie
+use Rattle.table_sizes.proofs.run_count.Statement.{statement}
+use Rattle.table_sizes.proofs.run_count.Tie as tie
 
 enum-known-table : tie.Need-enum-known-table
 enum-known-table c = search needs
