@@ -1,4 +1,2 @@
-pub mod Rows
 pub mod Settled
 pub mod Sheet
-pub mod Stops

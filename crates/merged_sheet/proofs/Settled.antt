@@ -19,11 +19,12 @@ use Rattle.sheets.specs.declared.answer.Answer.the-variants.{Filled}
 use Rattle.layout.specs.Bytes.{runsOf, padded, Zeros, sheetIn}
 use Rattle.layout.specs.Step.{Left}
 use Rattle.merge_questions.specs.Questions.{membersOf, Named}
-use Rattle.merged_sheet.specs.Merged.{Mergeable, HasStops, mergedRow}
+use Rattle.merged_rows.specs.MergedRow.{HasStops, mergedRow}
+use Rattle.merged_sheet.specs.Merged.{Mergeable}
 use Rattle.layout.specs.declared.Size.{Size}
 use Rattle.layout.proofs.Bytes.{runs-length}
 use Rattle.layout.proofs.Sheets.{cells-few, ready-few, ready-runs, built-after, built-holds}
-use Rattle.merged_sheet.proofs.Rows.{row-of-sources}
+use Rattle.merged_rows.proofs.Rows.{row-of-sources}
 use Rattle.merged_sheet.proofs.Sheet.{fewer-columns}
 
 pub square-most : {p : ℕ} {numbers : List ℕ} → Named p numbers → p * p ≤ 49

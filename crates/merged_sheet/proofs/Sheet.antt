@@ -18,11 +18,11 @@ use Rattle.step_tables.proofs.Lists.{mem-getD}
 use Rattle.step_tables.proofs.Merge.{merge-columns}
 use Rattle.layout.specs.Bytes.{runOf, runsOf}
 use Rattle.merge_questions.specs.Questions.{membersOf, Fitting, HasRoles}
-use Rattle.merged_sheet.specs.Merged.{mergedRow}
+use Rattle.merged_rows.specs.MergedRow.{mergedRow}
 use Rattle.layout.proofs.Bytes.{run-sources, run-length}
 use Rattle.layout.proofs.Rows.{pieces-next}
 use Rattle.merge_questions.proofs.Runs.{partOf, member-column, row-length, row-cell}
-use Rattle.merged_sheet.proofs.Rows.{row-of-sources}
+use Rattle.merged_rows.proofs.Rows.{row-of-sources}
 
 -- ---- the runs of a table, put one after the other
 

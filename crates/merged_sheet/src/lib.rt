@@ -1,15 +1,14 @@
-// The sheet that step 4, MERGE p, c1 .. c(p+1), leaves: the members, p + 1 columns of p levels, become one column of p × p levels.
-// Each column of the sheet has a role in a byte: 0 if it stays, 1 for c1, whose place the merged column takes, 2 for any other member, which goes.
-// Between two members all columns stay. Such a stretch is put as a whole, and where it stops is found once for all runs.
-use buffers::put_byte;
-use buffers::put_bytes;
+// The sheet that step 4, MERGE p, c1 .. c(p+1), leaves: its runs, row by row, and its level counts, put in the place of the sheet in hand.
 use layout::Size;
 use merge_questions::column_of;
+use merged_rows::find_stops;
+use merged_rows::merge_row;
+use merged_rows::merged_level;
 use settling::settle;
 use sheets::answer::Answer;
 ghost use mathlib.Core.Path.{_≡_};
-ghost use Prim.Native.Nat.{_+_, _*_, _≤_, _<_};
-ghost use lib.ListN.{length, getD};
+ghost use Prim.Native.Nat.{_*_, _≤_};
+ghost use lib.ListN.{length};
 ghost use Rattle.buffers.specs.Put.{Put};
 ghost use Rattle.counting.specs.Table.{tableOf};
 ghost use Rattle.step_tables.specs.Merge.{mergeStep};
@@ -17,7 +16,8 @@ ghost use Rattle.sheets.specs.Steps.{filled};
 ghost use Rattle.layout.specs.Bytes.{Zeros, runsOf, sheetIn};
 ghost use Rattle.layout.specs.Step.{Left};
 ghost use Rattle.merge_questions.specs.Questions.{membersOf, Fitting, HasRoles};
-ghost use Rattle.merged_sheet.specs.Merged.{Mergeable, HasStops, memberPlace, mergedRow};
+ghost use Rattle.merged_rows.specs.MergedRow.{HasStops};
+ghost use Rattle.merged_sheet.specs.Merged.{Mergeable};
 
 // Builds the new sheet and puts it in the place of the sheet in hand.
 pub fn merge_sheet(
@@ -73,24 +73,6 @@ pub fn merge_sheet(
     }
 }
 
-// Finds where the stretch that starts at each column stops, from the right: one that starts at a member stops at once, any other where that of
-// the next column does. The end of the row has a byte too, so that a row may end with a member.
-fn find_stops(roles: &[u8], columns: usize, stops: &mut [u8])
-    requires { ⌜ (columns ≤ length (now roles)) × (columns ≤ 128) × (columns < length (now stops)) ⌝ }
-    ensures { λ r. ⌜ HasStops (now (roles .entry)) columns (now (stops .exit)) ⌝ }
-{
-    stops[columns] = columns as u8;
-    let mut column = columns;
-    while column > 0 {
-        column -= 1;
-        stops[column] = if roles[column] == 0 {
-            stops[column + 1]
-        } else {
-            column as u8
-        };
-    }
-}
-
 // Puts the runs of the new sheet into the scratch, one after the other, and returns the place after them.
 fn merge_runs(
     members: &[u16],
@@ -123,44 +105,4 @@ fn merge_runs(
         run += 1;
     }
     place
-}
-
-// Puts a row of the new sheet, the levels of a run or the level counts, by the row of the sheet in hand and the entry of the merged column: the
-// stretch before each member, what stands in the member's place, and the stretch after the last.
-fn merge_row(row: &[u8], roles: &[u8], stops: &[u8], merged: u8, buf: &mut [u8], at: usize) -> usize
-    requires { ⌜ length (now row) ≤ length (now roles) ⌝ }
-    requires { ⌜ HasStops (now roles) (length (now row)) (now stops) ⌝ }
-    requires { ⌜ at + length (now row) ≤ length (now buf) ⌝ }
-    ensures { λ r. ⌜ Put (now (buf .entry)) at (mergedRow (now (roles .entry)) merged (now (row .entry))) (now (buf .exit)) r ⌝ }
-{
-    let mut place = at;
-    let mut column = 0;
-    let mut stop = stops[0] as usize;
-    while stop < row.len() {
-        place = put_bytes(buf, place, &row[column..stop]);
-        place = put_member(buf, place, roles[stop], merged);
-        column = stop + 1;
-        stop = stops[column] as usize;
-    }
-    put_bytes(buf, place, &row[column..stop])
-}
-
-// Puts what stands in the place of a member: the entry of the merged column in that of c1, and nothing in that of any other.
-fn put_member(buf: &mut [u8], at: usize, role: u8, merged: u8) -> usize
-    requires { ⌜ at < length (now buf) ⌝ }
-    ensures { λ r. ⌜ Put (now (buf .entry)) at (memberPlace role merged) (now (buf .exit)) r ⌝ }
-{
-    if role != 1 {
-        return at;
-    }
-    put_byte(buf, at, merged)
-}
-
-// The level in the merged column of a run, p × c1 + c2.
-fn merged_level(row: &[u8], p: usize, c1: usize, c2: usize) -> u8
-    requires { ⌜ (c1 < length (now row)) × (c2 < length (now row)) ⌝ }
-    requires { ⌜ p * getD (now row) c1 0 + getD (now row) c2 0 < 256 ⌝ }
-    ensures { λ r. ⌜ r ≡ p * getD (now (row .entry)) c1 0 + getD (now (row .entry)) c2 0 ⌝ }
-{
-    (p * row[c1] as usize + row[c2] as usize) as u8
 }

@@ -3,9 +3,9 @@ use borrow.Author.Needs.{needs}
 use native.Mathlib.Omega.{arith}
 use borrow.Author.Tests.{ne-eqb, eq-eqb}
 use Rattle.buffers.proofs.Puts.{put-none}
-use Rattle.merged_sheet.specs.Merged.{memberPlace}
-use Rattle.merged_sheet.proofs.put_member.Statement.{statement}
-use Rattle.merged_sheet.proofs.put_member.Tie as tie
+use Rattle.merged_rows.specs.MergedRow.{memberPlace}
+use Rattle.merged_rows.proofs.put_member.Statement.{statement}
+use Rattle.merged_rows.proofs.put_member.Tie as tie
 
 returns : tie.Need-returns
 unfolding memberPlace

@@ -16,7 +16,7 @@ use Rattle.galois.specs.Arithmetic.{member}
 use Rattle.counting.specs.Table.{Table, columns}
 use Rattle.step_tables.specs.Merge.{MergeSource, kept, merged as merged-column, mergePlace, mergeSources}
 use Rattle.merge_questions.specs.Questions.{HasRoles, roleOf}
-use Rattle.merged_sheet.specs.Merged.{Stretch, memberPlace, placeBy, mergedRow}
+use Rattle.merged_rows.specs.MergedRow.{Stretch, memberPlace, placeBy, mergedRow}
 use Rattle.layout.proofs.Bytes.{flatMap-same, flatMap-next}
 use Rattle.layout.proofs.Rows.{pieces-next, map-flatMap}
 

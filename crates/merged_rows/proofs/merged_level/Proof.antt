@@ -1,8 +1,8 @@
 -- `merged_level` meets its contract, which says that the level fits a byte.
 use native.Mathlib.Omega.{arith}
 use borrow.Author.Needs.{needs}
-use Rattle.merged_sheet.proofs.merged_level.Statement.{statement}
-use Rattle.merged_sheet.proofs.merged_level.Tie as tie
+use Rattle.merged_rows.proofs.merged_level.Statement.{statement}
+use Rattle.merged_rows.proofs.merged_level.Tie as tie
 
 shared-slice-read-result : tie.Need-shared-slice-read-result
 shared-slice-read-result c = search needs

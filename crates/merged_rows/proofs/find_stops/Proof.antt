@@ -4,9 +4,9 @@ use mathlib.Core.Logic.{⊎-elim}
 use Prim.Native.Nat.{_≤_}
 use native.Mathlib.Omega.{arith}
 use lib.ListN.{length, length-set}
-use Rattle.merged_sheet.proofs.Stops.{StopsFrom, stops-end, stops-stay, stops-member, stops-all}
-use Rattle.merged_sheet.proofs.find_stops.Statement.{statement}
-use Rattle.merged_sheet.proofs.find_stops.Tie as tie
+use Rattle.merged_rows.proofs.Stops.{StopsFrom, stops-end, stops-stay, stops-member, stops-all}
+use Rattle.merged_rows.proofs.find_stops.Statement.{statement}
+use Rattle.merged_rows.proofs.find_stops.Tie as tie
 
 abbrev Inv-loop : tie.InvT-loop
 Inv-loop roles columns stops₀ column₀ stops column =

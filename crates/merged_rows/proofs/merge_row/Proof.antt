@@ -5,10 +5,10 @@ use native.Mathlib.Nat.{le-antisymm}
 use native.Mathlib.Omega.{arith}
 use lib.ListN.{length}
 use Rattle.buffers.proofs.Puts.{put-length}
-use Rattle.merged_sheet.specs.Merged.{Stretch, mergedRow}
-use Rattle.merged_sheet.proofs.Rows.{RowPut, row-none, row-stretch, row-member, stretch-room, member-room}
-use Rattle.merged_sheet.proofs.merge_row.Statement.{statement}
-use Rattle.merged_sheet.proofs.merge_row.Tie as tie
+use Rattle.merged_rows.specs.MergedRow.{Stretch, mergedRow}
+use Rattle.merged_rows.proofs.Rows.{RowPut, row-none, row-stretch, row-member, stretch-room, member-room}
+use Rattle.merged_rows.proofs.merge_row.Statement.{statement}
+use Rattle.merged_rows.proofs.merge_row.Tie as tie
 
 abbrev Inv-loop : tie.InvT-loop
 Inv-loop row roles stops merged buf₀ at place₀ column₀ stop₀ buf place column stop =

@@ -8,7 +8,7 @@ use native.Mathlib.Decide.{decLt}
 use native.Mathlib.Omega.{arith}
 use lib.ListN.{length, getD, set, length-set}
 use lib.Seq.{getD-set-same, getD-set-other}
-use Rattle.merged_sheet.specs.Merged.{Stretch, HasStops}
+use Rattle.merged_rows.specs.MergedRow.{Stretch, HasStops}
 
 module _ (roles : List ℕ) (n : ℕ) where
   -- the stretches that start at a column or after it
