@@ -15,7 +15,7 @@ use Rattle.order.specs.Grammar.{readOrder}
 use Rattle.order.proofs.OrderLaw.{reads-iff}
 use Rattle.step_places.specs.StepCount.{stepCount}
 use Rattle.sheets.specs.Buffers.{Suffices}
-use Rattle.step_tables.specs.Sheet.{LevelsAtMost, Sound, SmallEnough, Agree}
+use Rattle.step_tables.specs.Sheet.{AllLevels, Sound, SmallEnough, Agree}
 use Rattle.spare.specs.Spare.{spareOf, spare}
 use Rattle.sheets.specs.Steps.{Outcome, filled, refused, proceed, provided, firstStep, laterStep, laterSteps, allSteps}
 use Rattle.sheets.specs.declared.answer.Refusal.{Refusal}
@@ -147,11 +147,11 @@ long-kept long table-kept levels-kept scratch-kept =
     }
 
 sound-agrees : {A B : Table} → Agree A B → Sound A → Sound B
-unfolding LevelsAtMost
+unfolding AllLevels
 sound-agrees alike sound =
     record {
       array = agree-array alike 2 (sound .array);
-      levels-most = λ c h. rw (← agree-levels alike c) (sound .levels-most c (rw (agree-columns alike) h));
+      levels-within = λ c h. rw (← agree-levels alike c) (sound .levels-within c (rw (agree-columns alike) h));
     }
 
 small-agrees : {A B : Table} → Agree A B → SmallEnough A → SmallEnough B

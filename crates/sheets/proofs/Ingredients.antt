@@ -3,25 +3,25 @@
 -- Assumes nothing.
 use mathlib.Core.Path.{_≡_, refl, sym, _∙_, ap, subst}
 use mathlib.Core.Logic.{_⊎_, inl, inr, ⊎-elim}
-use mathlib.Core.Bool.{Bool, true, false, cond, _||_}
+use mathlib.Core.Bool.{Bool, true, false, cond, _&&_, _||_}
 use mathlib.Core.List.{List, [], _∷_, List·Memᴰ, List·Memᴰ·not-nil, List·Memᴰ·cases-cons}
 use mathlib.Core.Option.{Option, none, some, Option·map, bind-eq-some-iff, map-eq-some-iff, Option·some-injective, Option·none-ne-some}
-use Prim.Native.Nat.{ℕ, zero, suc, _+_, _*_, _<_}
-use native.Mathlib.Nat.{le-of-eq, le-of-suc-le-suc, not-suc-le-zero}
+use Prim.Native.Nat.{ℕ, zero, suc, _+_, _*_, _^_, _≤_, _<_}
+use native.Mathlib.Nat.{le-of-eq, le-of-suc-le-suc, not-suc-le-zero, one-le-pow, pow-suc, mul-le-mul}
 use native.Mathlib.Omega.{arith}
 use lib.Arith.{digits-mod}
 use lib.Dec.{T, eqb, leb, leb→le}
 use lib.ListN.{length, getD, getElem?}
 use Rattle.finite.specs.First.{_orElse_}
 use Rattle.finite.specs.Sum.{sum, every}
-use Rattle.finite.proofs.Tests.{all-every}
+use Rattle.finite.proofs.Tests.{T-and, all-every}
 use Rattle.finite.proofs.Sums.{sum-first}
 use Rattle.finite.proofs.Fits.{place-below}
 use Rattle.galois.specs.Arithmetic.{fieldSize, fieldSum, fieldProduct}
 use Rattle.galois.specs.Laws.{Field}
 use Rattle.galois.proofs.Fields.{field}
 use Rattle.galois.proofs.Tests.{otherwise}
-use Rattle.counting.specs.Table.{Table, columns, tableOf, InRange}
+use Rattle.counting.specs.Table.{Table, columns, levelsOf, tableOf, InRange}
 use Rattle.counting.specs.Matrix.{Matrix, matrixOf, MatrixInRange}
 use Rattle.counting.specs.Generator.{Generator, factors, generatorOf, width, ElementsInRange}
 use Rattle.house.specs.House.{house101, house102, house103, house104, houseOf, houseTable}
@@ -29,7 +29,7 @@ use Rattle.house.proofs.Passing.{house-passes, house-even, house-number}
 use Rattle.order.specs.Order.{Ingredient, table, matrix, generator, Order, total, All, Between, GeneratorField, FactorWidth, IngredientLimits, WithinLimits, entriesOf}
 use Rattle.order.specs.Range.{bound, EntriesInRange}
 use Rattle.step_tables.specs.Lists.{allOf}
-use Rattle.step_tables.specs.Sheet.{LevelsAtMost, Sound}
+use Rattle.step_tables.specs.Sheet.{AllLevels, LevelCount, Sound}
 use Rattle.step_tables.specs.Sum.{PassingMatrix}
 use Rattle.sheets.specs.Ingredients.{asTable, asMatrix, asGenerator, listed, tableNamed, matrixNamed, generatorNamed, matricesNamed, adjoinedNamed}
 use Rattle.sheets.specs.Steps.{fieldStep}
@@ -72,6 +72,11 @@ field-size t s (between, six, most) =
     let tested = all-every 10 sizesTest sizes s (omega arith) in
     otherwise _ six (otherwise _ (λ (e : s ≡ 1). omega arith) (otherwise _ (λ (e : s ≡ 0). omega arith) tested))
 
+-- a field's size to a power of at least 1
+power-least : (s u : ℕ) → 2 ≤ s → 1 ≤ u → 2 ≤ s ^ u
+power-least s zero h k = absurd (not-suc-le-zero k)
+power-least s (suc u) h k = omega (arith, pow-suc s u, mul-le-mul (one-le-pow u s (omega arith)) h)
+
 -- ---- ingredients of the list
 
 -- each entry is below its levels, p or s
@@ -84,9 +89,9 @@ module _ (rows : ℕ) (levels entries : List ℕ) (limits : IngredientLimits (ta
   table-in-range bounds r c hr hc =
       rw (digits-mod r hc) at (bounds (r * length levels + c) (place-below hr hc (le-of-eq (sym (limits .3)))))
 
-  pub table-levels : LevelsAtMost 64 (tableOf entries levels rows)
-  unfolding LevelsAtMost tableOf
-  table-levels c h = all-getD (Between 2 64) levels (limits .2) c 0 h .1
+  pub table-levels : AllLevels LevelCount (tableOf entries levels rows)
+  unfolding AllLevels tableOf
+  table-levels c h = all-getD (Between 2 64) levels (limits .2) c 0 h
 
 module _ (rows columns p : ℕ) (entries : List ℕ) (limits : IngredientLimits (matrix rows columns p entries)) where
   pub matrix-in-range : InBounds (matrix rows columns p entries) → MatrixInRange (matrixOf entries rows columns p)
@@ -102,12 +107,13 @@ module _ (t s : ℕ) (widths entries : List ℕ) (limits : IngredientLimits (gen
   generator-field : Field s (fieldSum s) (fieldProduct s)
   generator-field = field s (field-size t s (limits .2))
 
-  generator-levels : LevelsAtMost 64 (fieldStep (generatorOf entries t s widths))
-  unfolding LevelsAtMost fieldStep generatorOf
+  generator-levels : AllLevels LevelCount (fieldStep (generatorOf entries t s widths))
+  unfolding AllLevels fieldStep generatorOf
   generator-levels c h =
       let G = generatorOf entries t s widths in
       let below : c < factors G = rw (field-columns _ _ G) at h in
-      rw (field-levels _ _ G below) (all-getD (FactorWidth s) widths (limits .3) c 0 below .1)
+      let width = all-getD (FactorWidth s) widths (limits .3) c 0 below in
+      rw (field-levels _ _ G below) (power-least s (getD widths c 0) (limits .2 .0 .0) (width .0), width .1)
 
 -- what questions 2 to 4 say of an ingredient
 record Known (g : Ingredient) : Type 0 where
@@ -120,7 +126,7 @@ unfolding MeetsDefinition
 known-table rows levels entries known =
     record {
       array = record { even = known .meets; in-range = table-in-range rows levels entries (known .limits) (known .bounds) };
-      levels-most = table-levels rows levels entries (known .limits);
+      levels-within = table-levels rows levels entries (known .limits);
     }
 
 known-matrix : (rows columns p : ℕ) (entries : List ℕ) → Known (matrix rows columns p entries) → PassingMatrix (matrixOf entries rows columns p)
@@ -137,17 +143,20 @@ known-generator t s widths entries known =
       array =
           field-leaves (fieldSum s) (fieldProduct s) (generatorOf entries t s widths) (generator-field t s widths entries (known .limits)) elements 2
           (known .meets);
-      levels-most = generator-levels t s widths entries (known .limits);
+      levels-within = generator-levels t s widths entries (known .limits);
     }
 
 -- ---- house tables
 
 fewLevels : Table → Bool
-fewLevels A = allOf (λ s. leb s 64) (A .levels)
+fewLevels A = allOf (λ s. leb 2 s && leb s 64) (A .levels)
 
-few-levels : (A : Table) → T (fewLevels A) → LevelsAtMost 64 A
-unfolding fewLevels LevelsAtMost
-few-levels A t c h = leb→le _ _ (allOf-mem (λ s. leb s 64) (A .levels) .0 t _ (mem-getD (A .levels) c 0 h))
+few-levels : (A : Table) → T (fewLevels A) → AllLevels LevelCount A
+unfolding fewLevels AllLevels
+few-levels A t c h =
+    let s = levelsOf A c in
+    let both = T-and (leb 2 s) (leb s 64) .0 (allOf-mem (λ n. leb 2 n && leb n 64) (A .levels) .0 t s (mem-getD (A .levels) c 0 h)) in
+    (leb→le 2 s (both .0), leb→le s 64 (both .1))
 
 either-few : (b : Bool) (A B : Table) → T (fewLevels A) → T (fewLevels B) → T (fewLevels (cond b A B))
 either-few true A B t u = t
@@ -162,7 +171,7 @@ house-sound : (n : ℕ) (A : Table) → houseTable n ≡ some A → Sound A
 house-sound n A e =
     record {
       array = record { even = house-even n A e; in-range = house-passes n A e .in-range };
-      levels-most = subst (LevelsAtMost 64) (house-number n A e .1) (few-levels (houseOf n) (houses-few n));
+      levels-within = subst (AllLevels LevelCount) (house-number n A e .1) (few-levels (houseOf n) (houses-few n));
     }
 
 -- ---- by number

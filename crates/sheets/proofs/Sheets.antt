@@ -5,7 +5,7 @@ use mathlib.Core.Path.{_≡_, refl, subst}
 use mathlib.Core.Bool.{Bool, _||_}
 use mathlib.Core.List.{List, [], _∷_}
 use mathlib.Core.Option.{Option, none, some, bind-eq-some-iff, map-eq-some-iff, Option·map, Option·none-ne-some, Option·some-injective}
-use Prim.Native.Nat.{ℕ, _-_, _*_, _≤_, _<_}
+use Prim.Native.Nat.{ℕ, _-_, _*_, _<_}
 use native.Mathlib.Nat.{lt-of-lt-of-le, not-suc-le-zero}
 use native.Mathlib.Omega.{arith}
 use lib.Dec.{T, eqb, leb, leb→le}
@@ -17,7 +17,7 @@ use Rattle.counting.specs.Table.{Table, columns, InRange}
 use Rattle.counting.specs.Matrix.{Matrix}
 use Rattle.order.specs.Order.{Step, TAKE, FIELD, SUM, MERGE, SPLIT, Order, All, MergePrime, StepLimits, WithinLimits}
 use Rattle.order.specs.Range.{EntriesInRange}
-use Rattle.step_tables.specs.Sheet.{LevelsAtMost, Sound, SmallEnough, takeStep}
+use Rattle.step_tables.specs.Sheet.{AllLevels, LevelCount, Sound, SmallEnough, takeStep}
 use Rattle.step_tables.specs.Sum.{levelSum, rowsOf, adjoinedTable}
 use Rattle.step_tables.specs.Merge.{mergePrimes}
 use Rattle.sheets.specs.Ingredients.{tableNamed, generatorNamed, matricesNamed, adjoinedNamed}
@@ -32,8 +32,8 @@ use Rattle.sheets.proofs.Ingredients.{table-sound, matrices-passing, ge
 
 -- a level of a sound sheet fits a byte with room to spare
 pub sound-cell : {S : Table} → Sound S → (r c : ℕ) → r < S .runs → c < columns S → S .cell r c < 64
-unfolding InRange LevelsAtMost
-sound-cell sound r c h k = lt-of-lt-of-le (sound .array .in-range r c h k) (sound .levels-most c k)
+unfolding InRange AllLevels
+sound-cell sound r c h k = lt-of-lt-of-le (sound .array .in-range r c h k) (sound .levels-within c k .1)
 
 -- ---- the p of MERGE
 
@@ -51,8 +51,9 @@ merge-prime p (between, four, six) =
     let tested = all-every 8 primesTest primes p (omega arith) in
     otherwise _ six (otherwise _ four (otherwise _ (λ (e : p ≡ 1). omega arith) (otherwise _ (λ (e : p ≡ 0). omega arith) tested)))
 
-merged-levels : (p : ℕ) → T (member p mergePrimes) → p * p ≤ 64
-merged-levels p m = leb→le (p * p) 64 (among (λ q. leb (q * q) 64) mergePrimes tt p m)
+merged-levels : (p : ℕ) → T (member p mergePrimes) → LevelCount (p * p)
+merged-levels p m =
+    (leb→le 2 (p * p) (among (λ q. leb 2 (q * q)) mergePrimes tt p m), leb→le (p * p) 64 (among (λ q. leb (q * q) 64) mergePrimes tt p m))
 
 -- ---- each step
 
@@ -61,10 +62,10 @@ take-sound : {A : Table} → Sound A → Sound (takeStep A)
 unfolding takeStep
 take-sound sound = sound
 
-adjoined-levels : (M : ℕ) (k : Option Table) → ((K : Table) → k ≡ some K → Sound K) → LevelsAtMost 64 (adjoinedTable M k)
+adjoined-levels : (M : ℕ) (k : Option Table) → ((K : Table) → k ≡ some K → Sound K) → AllLevels LevelCount (adjoinedTable M k)
 unfolding adjoinedTable
-adjoined-levels M none tables = unfold LevelsAtMost in (λ c h. absurd (not-suc-le-zero h))
-adjoined-levels M (some K) tables = tables K refl .levels-most
+adjoined-levels M none tables = unfold AllLevels in (λ c h. absurd (not-suc-le-zero h))
+adjoined-levels M (some K) tables = tables K refl .levels-within
 
 module _ (o : Order) (limits : WithinLimits o) (range : EntriesInRange o) (passing : All MeetsDefinition (o .ingredients)) where
   -- the sheet that a first step leaves
@@ -92,7 +93,7 @@ module _ (o : Order) (limits : WithinLimits o) (range : EntriesInRange o) (passi
         let tables = adjoined-sound o limits range passing k found adjoined in
         record {
           array = sum-leaves Ds found S fits (matrices-passing o limits range passing ds Ds named) (λ K e. tables K e .array) (sheet .array);
-          levels-most = sum-levels levelSum Ds (adjoinedTable (rowsOf Ds) found) S 64 (adjoined-levels (rowsOf Ds) found tables) (sheet .levels-most);
+          levels-within = sum-levels levelSum Ds (adjoinedTable (rowsOf Ds) found) S LevelCount (adjoined-levels (rowsOf Ds) found tables) (sheet .levels-within);
         }
 
     merge-keeps : (p : ℕ) (cs : List ℕ) → MergePrime p → Keeps (merge p cs)
@@ -101,7 +102,7 @@ module _ (o : Order) (limits : WithinLimits o) (range : EntriesInRange o) (passi
         let prime = merge-prime p within in
         record {
           array = merge-leaves p cs S prime fits sums 2 (sheet .array);
-          levels-most = merge-levels p cs S prime fits sums 2 (sheet .array) 64 (merged-levels p prime) (sheet .levels-most);
+          levels-within = merge-levels p cs S prime fits sums 2 (sheet .array) LevelCount (merged-levels p prime) (sheet .levels-within);
         }
 
     split-keeps : (c i : ℕ) (A : Table) → tableNamed o i ≡ some A → Keeps (split c A)
@@ -110,7 +111,7 @@ module _ (o : Order) (limits : WithinLimits o) (range : EntriesInRange o) (passi
         let part = table-sound o limits range passing i A named in
         record {
           array = split-leaves c A S fits 2 (sheet .array) (part .array);
-          levels-most = split-levels c A S fits 2 (sheet .array) 64 (sheet .levels-most) (part .levels-most);
+          levels-within = split-levels c A S fits 2 (sheet .array) LevelCount (sheet .levels-within) (part .levels-within);
         }
 
     -- the sheet that a later step leaves

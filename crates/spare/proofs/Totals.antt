@@ -15,7 +15,7 @@ use Rattle.finite.specs.Sum.{sum}
 use Rattle.finite.proofs.Sums.{sum-first}
 use Rattle.order.specs.Order.{total}
 use Rattle.counting.specs.Table.{Table, columns}
-use Rattle.step_tables.specs.Sheet.{LevelsAtMost, SmallEnough}
+use Rattle.step_tables.specs.Sheet.{AllLevels, LevelCount, SmallEnough}
 use Rattle.spare.specs.Spare.{degrees, spareOf, spare}
 use Rattle.spare.proofs.Differences.{difference-sum, difference-less, difference-most, sum-most}
 
@@ -58,20 +58,20 @@ module _ (runs : ℕ) (levels : List ℕ) where
   spare-total = ap (λ x. (pos runs -ℤ pos 1) -ℤ x) (degrees-total levels) ∙ difference-less runs 1 (total levels) (length levels)
 
 -- at most 512 runs and 128 columns of at most 64 levels
-spare-most : (A : Table) → SmallEnough A → LevelsAtMost 64 A → mag (spare A) ≤ 8833
-unfolding LevelsAtMost
-spare-most A small most =
+spare-most : (A : Table) → SmallEnough A → AllLevels LevelCount A → mag (spare A) ≤ 8833
+unfolding AllLevels
+spare-most A small within =
     rw (spare-total (A .runs) (A .levels))
     (omega (
       arith,
       difference-most (A .runs + columns A) (1 + total (A .levels)),
-      total-most 64 (A .levels) most,
+      total-most 64 (A .levels) (λ c h. within c h .1),
       mul-le-mul (small .columns-most) (le-refl 64),
       small .runs-most,
       small .columns-most,
     ))
 
 -- the spare degrees of two such tables add up to a number of 64 bits
-pub spares-fit : (A B : Table) → SmallEnough A → LevelsAtMost 64 A → SmallEnough B → LevelsAtMost 64 B → SFits w64 (spare A +ℤ spare B)
+pub spares-fit : (A B : Table) → SmallEnough A → AllLevels LevelCount A → SmallEnough B → AllLevels LevelCount B → SFits w64 (spare A +ℤ spare B)
 spares-fit A B small most small′ most′ =
     record { sfits = omega (arith, sum-most (spare A) (spare B), spare-most A small most, spare-most B small′ most′) }

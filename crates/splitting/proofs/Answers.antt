@@ -7,7 +7,7 @@ use lib.IntN.{ℤ, _+ℤ_}
 use mir.Syntax.{w64}
 use mir.Val.{SFits}
 use Rattle.counting.specs.Table.{Table, columns, tableOf}
-use Rattle.step_tables.specs.Sheet.{LevelsAtMost, SmallEnough, fromSources}
+use Rattle.step_tables.specs.Sheet.{AllLevels, LevelCount, SmallEnough, fromSources}
 use Rattle.step_tables.specs.Split.{SplitFits, splitStep}
 use Rattle.spare.specs.Spare.{spare}
 use Rattle.spare.proofs.Steps.{split-spare}
@@ -43,5 +43,5 @@ module _ {list : List ℕ} {size : Size} {table levels scratch : List ℕ} (read
 
 -- the spare degrees of the sheet in hand and of a table that keeps the limits add up to a number of 64 bits
 pub spare-room : {list : List ℕ} {size : Size} {table levels scratch : List ℕ} → Ready list size table levels scratch
-    → {U : Table} {spared : ℤ} → SmallEnough U → LevelsAtMost 64 U → spared ≡ spare U → SFits w64 (size .spare +ℤ spared)
-spare-room ready small most put-in = rw (ready .spare-is, put-in) (spares-fit _ _ (ready .small) (ready .sound .levels-most) small most)
+    → {U : Table} {spared : ℤ} → SmallEnough U → AllLevels LevelCount U → spared ≡ spare U → SFits w64 (size .spare +ℤ spared)
+spare-room ready small within put-in = rw (ready .spare-is, put-in) (spares-fit _ _ (ready .small) (ready .sound .levels-within) small within)

@@ -12,7 +12,7 @@ use Rattle.counting.specs.Table.{Table, columns}
 use Rattle.order.specs.Order.{SPLIT, StepLimits}
 use Rattle.order.specs.Grammar.{readOrder}
 use Rattle.order.proofs.Segment.{segment-in}
-use Rattle.step_tables.specs.Sheet.{LevelsAtMost, SmallEnough, fromSources, smallEnough}
+use Rattle.step_tables.specs.Sheet.{AllLevels, LevelCount, SmallEnough, fromSources, smallEnough}
 use Rattle.step_tables.specs.Split.{splitFits, splitStep}
 use Rattle.sheets.specs.Steps.{filled, refused, provided, split, operation, fits, wrongMember, applied, sized, afterSums, operate, laterStep}
 use Rattle.sheets.specs.declared.answer.Refusal.the-variants.{StepNotAllowed, PartsDoNotFit, TooLarge}
@@ -44,9 +44,9 @@ module _ {list : List ℕ} {at : ℕ} (readable : Readable list) (stands : Stand
     pub small : SmallEnough (tableIn list N)
     small = limits .small
 
-    pub few-levels : LevelsAtMost 64 (tableIn list N)
-    unfolding LevelsAtMost
-    few-levels c h = limits .level-limits c h .1
+    pub few-levels : AllLevels LevelCount (tableIn list N)
+    unfolding AllLevels
+    few-levels c h = limits .level-limits c h
 
     module _ (n : ℕ) (S : Table) where
       comes-to : laterIn list n S 5 at ≡ provided (Option·map (split (getD list at 0 - 1)) (someTable list N)) (StepNotAllowed n) (operate n S)

@@ -15,7 +15,7 @@ use Rattle.finite.proofs.Tests.{and-left-comm}
 use Rattle.finite.proofs.Counts.{count-ext, count-all}
 use Rattle.counting.specs.Table.{Table, columns, levelsOf, Setting, shows, times, combinations, Apart, Settings, InRange, Even}
 use Rattle.step_tables.specs.Lists.{Distinct}
-use Rattle.step_tables.specs.Sheet.{fromSources, OrthogonalArray, LevelsAtMost}
+use Rattle.step_tables.specs.Sheet.{fromSources, OrthogonalArray, AllLevels}
 use Rattle.step_tables.proofs.Lists.{mem-getD, distinct-getD, getD-map, map-getD}
 
 -- no settings stand in every run
@@ -158,8 +158,8 @@ module _ {A : Type 0} {P : A → Type 0} {sources : List A} (given : Sources P s
       → OrthogonalArray g (fromSources N levels value sources)
   from-array g below even = record { even = even-of-choices g even; in-range = in-range below }
 
-  pub from-levels : (b : ℕ) → ((a : A) → P a → levels a ≤ b) → LevelsAtMost b (fromSources N levels value sources)
-  unfolding LevelsAtMost
-  from-levels b most c l =
+  pub from-levels : (Q : ℕ → Type 0) → ((a : A) → P a → Q (levels a)) → AllLevels Q (fromSources N levels value sources)
+  unfolding AllLevels
+  from-levels Q meets c l =
       let k : c < length sources = place-below c l in
-      rw (levels-choose c k) (most (source c) (source-allowed c k))
+      rw (levels-choose c k) (meets (source c) (source-allowed c k))

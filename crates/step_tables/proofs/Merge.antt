@@ -4,7 +4,7 @@
 use mathlib.Core.Path.{_≡_, refl, sym, _∙_, ap, ap₂}
 use mathlib.Core.Bool.{Bool, true, false, cond, _&&_, and-true, and-false, and-comm}
 use mathlib.Core.List.{List, [], _∷_, List·Memᴰ, List·Memᴰ·not-nil, List·Memᴰ·eq-of-singleton, Memᴰ·cast}
-use Prim.Native.Nat.{ℕ, zero, suc, _+_, _-_, _*_, _/_, _%_, _≤_, _<_}
+use Prim.Native.Nat.{ℕ, zero, suc, _+_, _-_, _*_, _/_, _%_, _<_}
 use native.Mathlib.Nat.{mul-one, one-mul, zero-mul, mul-zero, mul-comm, mul-assoc, mul-right-comm, mul-add, suc-mul, add-left-cancel, mod-lt, div-lt-iff-lt-mul, div-add-mod}
 use native.Mathlib.Omega.{arith}
 use borrow.Author.Tests.{eqb-true}
@@ -19,7 +19,7 @@ use Rattle.finite.proofs.Counts.{count-ext, count-and, count-exchange, count-on
 use Rattle.galois.specs.Arithmetic.{member}
 use Rattle.counting.specs.Table.{Table, columns, Setting, shows, times, combinations, Apart, Settings, InRange, Even}
 use Rattle.step_tables.specs.Lists.{Distinct}
-use Rattle.step_tables.specs.Sheet.{fromSources, OrthogonalArray, LevelsAtMost}
+use Rattle.step_tables.specs.Sheet.{fromSources, OrthogonalArray, AllLevels}
 use Rattle.step_tables.specs.Merge.{mergePrimes, memberAt, MergeSource, kept, merged, mergePlace, mergeSources, mergeLevels, mergedLevel, mergeValue, mergeStep, MergeFits, memberSum, MemberSums}
 use Rattle.step_tables.proofs.Lists.{length-flatMap, count-member, mem-member, mem-getD, mem-flatMap, mem-from, distinct-flatMap, distinct-from}
 use Rattle.step_tables.proofs.Columns.{no-settings}
@@ -64,9 +64,9 @@ level-column-in-range : (n : ℕ) → InRange (levelColumn n)
 unfolding InRange levelColumn
 level-column-in-range n r c h l = rw (lt-one l) h
 
-level-column-levels : (b n : ℕ) → n ≤ b → LevelsAtMost b (levelColumn n)
-unfolding LevelsAtMost levelColumn
-level-column-levels b n most c l = rw (lt-one l) most
+level-column-levels : (Q : ℕ → Type 0) (n : ℕ) → Q n → AllLevels Q (levelColumn n)
+unfolding AllLevels levelColumn
+level-column-levels Q n meets c l = rw (lt-one l) meets
 
 level-column : (g n : ℕ) → OrthogonalArray g (levelColumn n)
 level-column g n = record { even = level-column-even g n; in-range = level-column-in-range n }
@@ -266,9 +266,9 @@ module _ (p : ℕ) (cs : List ℕ) (S : Table) where
         (level-column g (p * p))
         (rows-even p cs S (merge-positive p prime) fits (sheet .in-range) sums (merge-plane p prime) g (sheet .even))
 
-    pub merge-levels : (b : ℕ) → p * p ≤ b → LevelsAtMost b S → LevelsAtMost b (mergeStep p cs S)
+    pub merge-levels : (Q : ℕ → Type 0) → Q (p * p) → AllLevels Q S → AllLevels Q (mergeStep p cs S)
     unfolding mergeStep
-    merge-levels b most most-sheet = replaced-levels replacement b most-sheet (level-column-levels b (p * p) most)
+    merge-levels Q square sheet = replaced-levels replacement Q sheet (level-column-levels Q (p * p) square)
 
   place-length : List·Memᴰ (memberAt cs 1) cs → (q : ℕ) (b d : Bool) → eqb q (memberAt cs 1) ≡ b → member q cs ≡ d
       → length {A = MergeSource} (cond b (merged ∷ []) (cond d [] (kept q ∷ []))) + bit d ≡ 1 + 1 * bit b

@@ -13,7 +13,7 @@ use lib.ListN.{length}
 use Rattle.finite.specs.Sum.{count}
 use Rattle.finite.proofs.Counts.{count-ext, sum-passing, count-through, share-of-none}
 use Rattle.counting.specs.Table.{Table, columns, Setting, shows, times, combinations, Apart, Settings, InRange, Even}
-use Rattle.step_tables.specs.Sheet.{fromSources, OrthogonalArray, LevelsAtMost}
+use Rattle.step_tables.specs.Sheet.{fromSources, OrthogonalArray, AllLevels}
 use Rattle.step_tables.proofs.Columns.{EvenChoices, Sources, from-array, from-levels}
 use Rattle.step_tables.proofs.Separate.{Place, left, right, Differ, levelsAt, cellAt, Placed, Placing, asIs, lefts, rights, length-separate, apart-separate, settings-separate, combinations-separate, shows-separate}
 
@@ -45,10 +45,10 @@ module _ (S T : Table) (gone : List ℕ) where
   stays-below row range range-table r h k (left q) s = range r q h (s .0)
   stays-below row range range-table r h k (right d) s = range-table (row r) d k s
 
-  stays-levels : (b : ℕ) → LevelsAtMost b S → LevelsAtMost b T → (p : Place) → Stays p → levelsAt S T p ≤ b
-  unfolding LevelsAtMost
-  stays-levels b most most-table (left q) s = most q (s .0)
-  stays-levels b most most-table (right d) s = most-table d s
+  stays-levels : (Q : ℕ → Type 0) → AllLevels Q S → AllLevels Q T → (p : Place) → Stays p → Q (levelsAt S T p)
+  unfolding AllLevels
+  stays-levels Q sheet table (left q) s = sheet q (s .0)
+  stays-levels Q sheet table (right d) s = table d s
 
 differ-of : (p o : Place) → p ≢ o → Differ p o
 differ-of (left q) (left d) n = λ e. n (ap left e)
@@ -86,9 +86,9 @@ module _ {S T : Table} {row : ℕ → ℕ} {gone : List ℕ} {A : Type 0} {level
         differ = λ a b n. differ-of (to .place a) (to .place b) (λ e. n (sym (to .round a) ∙ ap (to .back) e ∙ to .round b));
       }
 
-  pub replaced-levels : (b : ℕ) → LevelsAtMost b S → LevelsAtMost b T → LevelsAtMost b (fromSources (S .runs) levels value sources)
-  replaced-levels b most most-table =
-      from-levels (to .given) levels value (S .runs) b (λ a p. rw (to .as-many a) (stays-levels S T gone b most most-table (to .place a) p))
+  pub replaced-levels : (Q : ℕ → Type 0) → AllLevels Q S → AllLevels Q T → AllLevels Q (fromSources (S .runs) levels value sources)
+  replaced-levels Q sheet table =
+      from-levels (to .given) levels value (S .runs) Q (λ a p. rw (to .as-many a) (stays-levels S T gone Q sheet table (to .place a) p))
 
   module _ (g : ℕ) (sheet : OrthogonalArray g S) (table : OrthogonalArray g T) (rows : RowsEven g S T row gone) where
     -- some setting is of a column of the table

@@ -15,7 +15,7 @@ use Rattle.finite.proofs.Counts.{count-one, sum-balance}
 use Rattle.finite.proofs.Lists.{length-from}
 use Rattle.counting.specs.Table.{Table, columns, shows, times, combinations, Settings, InRange, Even}
 use Rattle.step_tables.specs.Lists.{Distinct}
-use Rattle.step_tables.specs.Sheet.{fromSources, OrthogonalArray, LevelsAtMost}
+use Rattle.step_tables.specs.Sheet.{fromSources, OrthogonalArray, AllLevels}
 use Rattle.step_tables.specs.Split.{SplitSource, kept, part, splitPlace, splitSources, splitLevels, splitValue, splitStep, SplitFits}
 use Rattle.step_tables.proofs.Lists.{length-flatMap, mem-map, mem-flatMap, mem-from, distinct-map, distinct-flatMap, distinct-from}
 use Rattle.step_tables.proofs.Separate.{Place, left, right, levelsAt, cellAt}
@@ -118,7 +118,7 @@ module _ (c : ℕ) (T S : Table) where
     unfolding splitStep
     split-leaves table = replaced-array replacement g sheet table rows-even
 
-    pub split-levels : (b : ℕ) → LevelsAtMost b S → LevelsAtMost b T → LevelsAtMost b (splitStep c T S)
+    pub split-levels : (Q : ℕ → Type 0) → AllLevels Q S → AllLevels Q T → AllLevels Q (splitStep c T S)
     unfolding splitStep
     split-levels = replaced-levels replacement
 

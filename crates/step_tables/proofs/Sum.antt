@@ -24,7 +24,7 @@ use Rattle.galois.proofs.Levels.{level-group}
 use Rattle.counting.specs.Matrix.{Matrix, MatrixInRange}
 use Rattle.counting.specs.Table.{Table, columns, levelsOf, Setting, shows, times, combinations, Apart, Settings, InRange, Even}
 use Rattle.step_tables.specs.Lists.{Distinct}
-use Rattle.step_tables.specs.Sheet.{fromSources, OrthogonalArray, LevelsAtMost}
+use Rattle.step_tables.specs.Sheet.{fromSources, OrthogonalArray, AllLevels}
 use Rattle.step_tables.specs.Sum.{levelSum, PassingMatrix, modulusOf, rowsOf, serving, adjoinedTable, SumSource, summed, adjoined, summedWith, summedColumns, sumPlace, sumSources, sumLevels, sumEntry, sumValue, sumStep, SumFits}
 use Rattle.step_tables.proofs.Lists.{length-flatMap, mem-map, mem-flatMap, mem-from, distinct-append, distinct-map, distinct-flatMap, distinct-from}
 use Rattle.step_tables.proofs.Columns.{Choice, _at_, chosen, choices, Allowed, EvenChoices, swap-choices, no-settings, Sources, from-array, from-levels}
@@ -155,22 +155,22 @@ module _ (plus : ℕ → ℕ → ℕ → ℕ) (Ds : List Matrix) (K S : Table) w
       (length-map (from 0 (columns K)) adjoined ∙ length-from 0 (columns K))
 
 -- a column of k has k's levels, and any other those of the column that it comes from
-source-levels : (Ds : List Matrix) (K S : Table) (b : ℕ) → LevelsAtMost b K → LevelsAtMost b S → (a : SumSource) → Comes Ds K S a → sumLevels K a ≤ b
-unfolding LevelsAtMost sumLevels
-source-levels Ds K S b most most-sheet (summed j D c) p = rw (serving-mem Ds (levelsOf S j) D (p .1) .1) (most-sheet j (p .0))
-source-levels Ds K S b most most-sheet (adjoined c) p = most c p
+source-levels : (Ds : List Matrix) (K S : Table) (Q : ℕ → Type 0) → AllLevels Q K → AllLevels Q S → (a : SumSource) → Comes Ds K S a → Q (sumLevels K a)
+unfolding AllLevels sumLevels
+source-levels Ds K S Q table sheet (summed j D c) p = rw (serving-mem Ds (levelsOf S j) D (p .1) .1) (sheet j (p .0))
+source-levels Ds K S Q table sheet (adjoined c) p = table c p
 
-pub sum-levels : (plus : ℕ → ℕ → ℕ → ℕ) (Ds : List Matrix) (K S : Table) (b : ℕ) → LevelsAtMost b K → LevelsAtMost b S
-    → LevelsAtMost b (sumStep plus Ds K S)
+pub sum-levels : (plus : ℕ → ℕ → ℕ → ℕ) (Ds : List Matrix) (K S : Table) (Q : ℕ → Type 0) → AllLevels Q K → AllLevels Q S
+    → AllLevels Q (sumStep plus Ds K S)
 unfolding sumStep
-sum-levels plus Ds K S b most most-sheet =
+sum-levels plus Ds K S Q table sheet =
     from-levels
     (given Ds K S)
     (sumLevels K)
     (sumValue plus (rowsOf Ds) K S)
     (S .runs * rowsOf Ds)
-    b
-    (source-levels Ds K S b most most-sheet)
+    Q
+    (source-levels Ds K S Q table sheet)
 
 -- what has a number below it has no factor 0
 pub factor-positive : (n m : ℕ) {r : ℕ} → r < n * m → 0 < m

@@ -18,14 +18,18 @@ pub record OrthogonalArray (g : ℕ) (T : Table) : Type 0 where
   pub even : Even g T
   pub in-range : InRange T
 
--- every level count is at most b
-unfoldable pub LevelsAtMost : ℕ → Table → Type 0
-LevelsAtMost b T = (c : ℕ) → c < columns T → levelsOf T c ≤ b
+-- every level count meets P
+unfoldable pub AllLevels : (ℕ → Type 0) → Table → Type 0
+AllLevels P T = (c : ℕ) → c < columns T → P (levelsOf T c)
 
--- a sheet as every step leaves it: an orthogonal array of strength two with at most 64 levels in a column
+-- 01's limits of a level count
+abbrev pub LevelCount : ℕ → Type 0
+LevelCount s = (2 ≤ s) × (s ≤ 64)
+
+-- a sheet as every step leaves it: an orthogonal array of strength two with 2 to 64 levels in a column
 pub record Sound (S : Table) : Type 0 where
   pub array : OrthogonalArray 2 S
-  pub levels-most : LevelsAtMost 64 S
+  pub levels-within : AllLevels LevelCount S
 
 -- two tables that look the same: one shape, and one level in each run and column
 pub record Agree (A B : Table) : Type 0 where

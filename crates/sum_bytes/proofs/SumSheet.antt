@@ -15,7 +15,7 @@ use Rattle.finite.proofs.Sums.{sum-ext}
 use Rattle.buffers.specs.Put.{Put}
 use Rattle.buffers.proofs.Puts.{put-length}
 use Rattle.counting.specs.Table.{Table, columns, tableOf}
-use Rattle.step_tables.specs.Sheet.{LevelsAtMost, SmallEnough, smallEnough}
+use Rattle.step_tables.specs.Sheet.{AllLevels, SmallEnough, smallEnough}
 use Rattle.spare.specs.Spare.{spareOf}
 use Rattle.sheets.specs.Steps.{filled, refused, sized}
 use Rattle.sheets.specs.declared.answer.Refusal.the-variants.{TooLarge}
@@ -78,11 +78,11 @@ module _ {list entries widths : List ℕ} {rows : ℕ} (stand : EntriesStand lis
 -- ---- the sheet in hand
 
 pub sheet-stands : {list : List ℕ} {size : Size} {table levels scratch : List ℕ} → Ready list size table levels scratch → SheetStands table (take (size .columns) levels) (size .runs)
-unfolding AllBelow LevelsAtMost sheetIn tableOf
+unfolding AllBelow AllLevels sheetIn tableOf
 sheet-stands {list} {size} {table} {levels} ready =
     record {
       within = rw (length-take-le (size .columns) levels (ready-few ready)) (ready-used ready);
-      few = λ c h. omega (arith, ready .sound .levels-most c h);
+      few = λ c h. omega (arith, ready .sound .levels-within c h .1);
       in-range = ready .sound .array .in-range;
     }
 
