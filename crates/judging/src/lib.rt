@@ -3,8 +3,7 @@ ghost use mathlib.Core.Path.{_≡_};
 ghost use mathlib.Core.List.{_∷_};
 ghost use Prim.Native.Nat.{_+_, _*_, _≤_, min};
 ghost use lib.ListN.{length, getD};
-ghost use Rattle.words.specs.Words.{reading, Reading};
-ghost use Rattle.words.specs.Scanner.{Ended, scannedReading};
+ghost use Rattle.words.specs.Words.{Reading};
 ghost use Rattle.sheets.specs.Steps.{Outcome};
 ghost use Rattle.promise.specs.Promise.{planned};
 ghost use Rattle.report.specs.Report.{answerRoom, Printable};
@@ -20,16 +19,8 @@ use record_texts::Lengths;
 use report::put_refused;
 use sheets::answer::Answer;
 use sheets::answer::Refusal;
+use whole_text::scan;
 use words::Scanned;
-
-// The numbers of a text.
-fn scan(text: &[u8], list: &mut [u16; 32768]) -> Scanned
-    requires { ⌜ length (now list) ≡ 32768 ⌝ }
-    ensures { λ r. ⌜ Ended (length (now (list .entry))) r (now (list .exit)) ⌝ }
-    ensures { λ r. ⌜ scannedReading (r, now (list .exit)) ≡ reading (now (text .entry)) ⌝ }
-{
-    scanning::finish(scanning::piece(scanning::start(), text, list), list)
-}
 
 // The number at a place of a list, or 0 after its end.
 fn number_at(list: &[u16], at: usize) -> usize

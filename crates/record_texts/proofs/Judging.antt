@@ -3,7 +3,7 @@
 use mathlib.Core.Path.{_≡_, refl, sym, _∙_, ap}
 use mathlib.Core.Logic.{_↔_}
 use mathlib.Core.Bool.{Bool, true, false, _&&_, and-false}
-use mathlib.Core.List.{List, [], _∷_, _++_, append-nil, flatten}
+use mathlib.Core.List.{List, [], _∷_, _++_}
 use Prim.Native.Nat.{ℕ, _+_, _*_, _-_, _≤_, _<_}
 use native.Mathlib.Omega.{arith}
 use borrow.Author.Tests.{eq-eqb, ne-eqb}
@@ -12,13 +12,8 @@ use lib.IntN.{ℤ}
 use lib.ListN.{length, getD, take, drop, take-append-drop}
 use lib.Seq.{drop-at, length-take-le}
 use Rattle.counting.specs.Table.{columns}
-use Rattle.words.specs.Words.{Reading, numbers, refused as unread, reading}
-use Rattle.words.specs.Scanner.{advanced, finished, scannedReading}
-use Rattle.words.specs.declared.Scan.{Scan}
-use Rattle.words.specs.declared.Scan.the-variants.{Between}
-use Rattle.words.specs.declared.Scanned.{Scanned}
+use Rattle.words.specs.Words.{Reading, reading}
 use Rattle.words.specs.declared.Scanned.the-variants as Scanned
-use Rattle.words.proofs.Scanning.{any-cut}
 use Rattle.sheets.specs.Refusals.{numbered}
 use Rattle.sheets.specs.Steps.{Outcome, filled, refused}
 use Rattle.sheets.specs.declared.answer.Refusal.{Refusal}
@@ -37,22 +32,6 @@ use Rattle.byte_texts.proofs.Comparing.{first-most, same-iff, zeros-zero}
 
 abbrev judgedBy : ℕ → Bool → Judged
 judgedBy number same = record { number = number; same = same }
-
--- A text that is scanned whole comes to its reading.
-pub scanned-text : (text before : List ℕ) → length before ≡ 32768 → {s s′ : Scan} {list list′ : List ℕ} {r : Scanned}
-    → s ≡ Between 0 → (s′, list) ≡ advanced (s, before) text → (r, list′) ≡ finished (s′, list) → scannedReading (r, list′) ≡ reading text
-unfolding flatten
-scanned-text text before places begun scanned ended =
-    ap scannedReading (ended ∙ ap finished (scanned ∙ ap (λ (s : Scan). advanced (s, before) text) begun))
-    ∙ any-cut before places (text ∷ [])
-    ∙ ap reading (append-nil text)
-
-module _ {r : Scanned} (list text : List ℕ) (reads : scannedReading (r, list) ≡ reading text) where
-  pub reads-numbers : {count : ℕ} → r ≡ Scanned.Numbers count → reading text ≡ numbers (take count list)
-  reads-numbers e = sym reads ∙ ap (λ (s : Scanned). scannedReading (s, list)) e
-
-  pub reads-refused : {place : ℕ} → r ≡ Scanned.Refused place → reading text ≡ unread place
-  reads-refused e = sym reads ∙ ap (λ (s : Scanned). scannedReading (s, list)) e
 
 -- Lengths, three at a time.
 pub lengths-three : (list : List ℕ) {a b c : ℕ} → a ≡ getD list 0 0 * 65536 + getD list 1 0 → b ≡ getD list 2 0 * 65536 + getD list 3 0

@@ -6,7 +6,8 @@ use lib.ListN.{length}
 use lib.Seq.{length-take-le}
 use Rattle.words.proofs.Bounds.{ended-room}
 use Rattle.byte_texts.proofs.Comparing.{rest-whole, first-most}
-use Rattle.record_texts.proofs.Judging.{reads-numbers, reads-refused, judged-whole}
+use Rattle.whole_text.proofs.Whole.{reads-numbers, reads-refused}
+use Rattle.record_texts.proofs.Judging.{judged-whole}
 use borrow.Author.Needs.{needs}
 use Rattle.judging.proofs.judge.Statement.{statement}
 use Rattle.judging.proofs.judge.Tie as tie

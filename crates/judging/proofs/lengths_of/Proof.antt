@@ -2,7 +2,8 @@
 use mathlib.Core.Path.{sym}
 use lib.Seq.{length-take-le}
 use Rattle.words.proofs.Bounds.{ended-room}
-use Rattle.record_texts.proofs.Judging.{reads-numbers, reads-refused, lengths-read}
+use Rattle.whole_text.proofs.Whole.{reads-numbers, reads-refused}
+use Rattle.record_texts.proofs.Judging.{lengths-read}
 use borrow.Author.Needs.{needs}
 use Rattle.judging.proofs.lengths_of.Statement.{statement}
 use Rattle.judging.proofs.lengths_of.Tie as tie

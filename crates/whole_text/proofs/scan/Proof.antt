@@ -1,9 +1,9 @@
--- `scan` meets its contract: the text is one piece.
+-- `whole_text::scan` meets its contract: the text is one piece.
 use Rattle.words.proofs.Bounds.{sound-start, sound-piece, sound-finish}
-use Rattle.record_texts.proofs.Judging.{scanned-text}
+use Rattle.whole_text.proofs.Whole.{scanned-text}
 use borrow.Author.Needs.{needs}
-use Rattle.judging.proofs.scan.Statement.{statement}
-use Rattle.judging.proofs.scan.Tie as tie
+use Rattle.whole_text.proofs.scan.Statement.{statement}
+use Rattle.whole_text.proofs.scan.Tie as tie
 
 start-requires : tie.Need-start-requires
 start-requires c κs = search needs
