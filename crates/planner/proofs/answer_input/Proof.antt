@@ -1,4 +1,5 @@
 -- `planner::answer_input` meets its contract: what was put for the text that was scanned is what is printed for it.
+use Rattle.report.specs.Report.{readingPrinted}
 use Rattle.input.proofs.Answers.{input-put}
 use borrow.Author.Needs.{needs}
 use Rattle.planner.proofs.answer_input.Statement.{statement}
@@ -17,7 +18,7 @@ same-length : tie.Need-same-length
 same-length c = search needs
 
 returns : tie.Need-returns
-returns c = input-put (c .before .before .before .before .before .scan-input .ensures) (c .before .before .put-scanned .ensures)
+returns c = input-put readingPrinted (c .before .before .before .before .before .scan-input .ensures) (c .before .before .put-scanned .ensures)
 
 pub answer-input-spec : {M : Type 1} → statement M
 answer-input-spec =
