@@ -1,4 +1,4 @@
-//! A second implementation of the planner of document 01 with requests K1 and K2 of document 02,
+//! A second implementation of the planner of document 01 with requests K1 to K3 of document 02,
 //! written from these documents alone and as plainly as possible, to be compared with the proved one.
 //! "01" and "02" in comments are those documents.
 //!
@@ -7,8 +7,10 @@
 //! - `steps`: questions 5 to 8 and what each step leaves;
 //! - `field`: sums and products of the seven fields, and the sum that goes with a matrix;
 //! - `text`: words in, printed runs out;
+//! - `pages`: a sheet's pages on paper;
 //! - `maker`: random orders for the vectors and the tests; the planner does not use it;
-//! - `records`: orders with their answers as stored texts; the planner does not use it.
+//! - `records`: orders with their answers as stored texts; the planner does not use it;
+//! - `page_calls`: calls for pages with their answers, stored and random; the planner does not use it.
 
 #![forbid(unsafe_code)]
 
@@ -16,6 +18,8 @@ mod counting;
 pub mod field;
 pub mod maker;
 pub mod order;
+pub mod page_calls;
+pub mod pages;
 pub mod records;
 mod steps;
 mod text;

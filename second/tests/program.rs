@@ -1,10 +1,20 @@
-//! The program, from standard input to standard output.
+//! The programs, from standard input to standard output.
 
+use second::pages::print_pages;
 use std::io::Write;
 use std::process::{Command, Stdio};
 
 fn printed(input: &[u8]) -> String {
-    let mut program = Command::new(env!("CARGO_BIN_EXE_second"))
+    output(env!("CARGO_BIN_EXE_second"), &[], input)
+}
+
+fn printed_pages(arguments: &[&str], input: &[u8]) -> String {
+    output(env!("CARGO_BIN_EXE_pages"), arguments, input)
+}
+
+fn output(program: &str, arguments: &[&str], input: &[u8]) -> String {
+    let mut program = Command::new(program)
+        .args(arguments)
         .stdin(Stdio::piped())
         .stdout(Stdio::piped())
         .spawn()
@@ -40,4 +50,30 @@ fn prints_refusals() {
         printed(b"1 1 4 2 2 2 0 0 0 0 1 1 1 1 1 1 1"),
         "refused 5 1 1 2 0 0 2\n"
     );
+}
+
+#[test]
+fn prints_pages() {
+    let order = b"0 1 1 104";
+    let page = print_pages(order, None);
+    assert_eq!(page.len(), 4_800);
+    // Only the first argument is looked at.
+    for arguments in [&[] as &[&str], &["1"], &["001", "2"], &["1", "x"]] {
+        assert_eq!(printed_pages(arguments, order), page);
+    }
+}
+
+#[test]
+fn prints_refusals_of_pages() {
+    for arguments in [["0"], ["2"], [""], ["x"], ["1 1"], ["65537"]] {
+        assert_eq!(
+            printed_pages(&arguments, b"0 1 1 104"),
+            "refused 13 0 0 0 0 0 0\n"
+        );
+        assert_eq!(
+            printed_pages(&arguments, b"0 1 1 5"),
+            "refused 8 1 0 0 0 0 0\n"
+        );
+    }
+    assert_eq!(printed_pages(&[], b""), "refused 2 0 0 0 0 0 0\n");
 }
