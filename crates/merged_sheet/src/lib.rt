@@ -6,7 +6,6 @@ use merged_rows::merge_row;
 use merged_rows::merged_level;
 use settling::settle;
 use sheets::answer::Answer;
-ghost use mathlib.Core.Path.{_≡_};
 ghost use Prim.Native.Nat.{_*_, _≤_};
 ghost use lib.ListN.{length};
 ghost use Rattle.buffers.specs.Put.{Put};

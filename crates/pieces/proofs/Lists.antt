@@ -50,7 +50,7 @@ flatMap-suc f n =
 pub flatMap-next : {B : Type 0} (f : ℕ → List B) (n : ℕ) → flatMap f (from 0 (n + 1)) ≡ flatMap f (from 0 n) ++ f n
 flatMap-next f n = ap (λ (k : ℕ). flatMap f (from 0 k)) (add-one n) ∙ flatMap-suc f n
 
-map-same : {B : Type 0} (a n : ℕ) (f g : ℕ → B) → ((c : ℕ) → a ≤ c → c < a + n → f c ≡ g c) → map f (from a n) ≡ map g (from a n)
+pub map-same : {B : Type 0} (a n : ℕ) (f g : ℕ → B) → ((c : ℕ) → a ≤ c → c < a + n → f c ≡ g c) → map f (from a n) ≡ map g (from a n)
 unfolding from
 map-same a zero f g same = refl
 map-same a (suc n) f g same = ap₂ _∷_ (same a (omega arith) (omega arith)) (map-same (suc a) n f g (λ c h k. same c (omega arith) (omega arith)))

@@ -114,19 +114,19 @@ pub refused-unfilled : {why : Refusal} {N m : ℕ} {spared : ℤ} → Refused wh
 refused-unfilled e = let none : _≡_ {A = ℕ} 0 1 = cc in absurd (omega arith)
 
 -- a filled answer is the size of a table that the outcome has, and its spare degrees
-filled-answer : (o : Outcome) {N m : ℕ} {spared : ℤ} → answerTo o ≡ Filled N m spared
+pub filled-answer : (o : Outcome) {N m : ℕ} {spared : ℤ} → answerTo o ≡ Filled N m spared
     → (S : Table) × (o ≡ filled S) × (S .runs ≡ N) × (columns S ≡ m) × (spare S ≡ spared)
 unfolding answerTo
 filled-answer (filled S) e = (S, refl, cc, cc, cc)
 filled-answer (refused why) e = absurd (refused-unfilled e)
 
 -- an outcome that is filled passed question 1
-asked-first : (b : Bool) (o : Outcome) {S : Table} → cond b o (refused ShortBuffers) ≡ filled S → T b × (o ≡ filled S)
+pub asked-first : (b : Bool) (o : Outcome) {S : Table} → cond b o (refused ShortBuffers) ≡ filled S → T b × (o ≡ filled S)
 asked-first true o e = (tt, e)
 asked-first false o e = absurd (refused-not-filled e)
 
 -- a table within the limits, padded to buffers that are long enough, lies in them
-padded-holds : (S : Table) (n m : ℕ) (table levels : List ℕ) → SmallEnough S → 65536 ≤ n → 128 ≤ m
+pub padded-holds : (S : Table) (n m : ℕ) (table levels : List ℕ) → SmallEnough S → 65536 ≤ n → 128 ≤ m
     → table ≡ padded n (runsOf S) → levels ≡ padded m (S .levels) → Holds S table levels
 padded-holds S n m table levels small table-long levels-long table-is levels-are =
     let room : length (runsOf S) ≤ n = le-trans (rw (runs-length S) (cells-few (small .runs-most) (small .columns-most))) table-long in

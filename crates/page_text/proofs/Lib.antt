@@ -1,0 +1,4 @@
+pub mod Aligned
+pub mod Counts
+pub mod Lines
+pub mod Rooms
