@@ -1,6 +1,6 @@
 /* The planner of mixed orthogonal run tables, for C. Link libexported.a, which `rt staticlib exported` writes to target/staticlib (x86-64 Linux).
  *
- * What is said here of the function is its contract in crates/exported/src/lib.rt, and proved, for a caller that keeps to "What a caller owes". */
+ * What is said here of a function is its contract in crates/exported/src/lib.rt, and proved, for a caller that keeps to "What a caller owes". */
 #ifndef YURBANTZE_H
 #define YURBANTZE_H
 
@@ -19,11 +19,15 @@ extern "C" {
 /* The numbers of an answer. */
 #define YURBANTZE_ANSWER_LENGTH 7
 
-/* The refusals, with their details in order. Columns, factors, steps, ingredients and members count from 1; places, runs and levels from 0.
- * Details that are not named are 0. */
+/* A page: 60 lines of 79 characters and a line feed. A shorter page buffer is answered with refusal 12, a longer one is taken. */
+#define YURBANTZE_PAGE_LENGTH 4800
+
+/* The refusals, with their details in order. Columns, factors, steps, ingredients, members and pages count from 1; places, runs and levels from 0.
+ * Details that are not named are 0. An order is refused by 1 to 11, and a page by 1, 12 or 13, which have no details. */
 enum yurbantze_number {
-    YURBANTZE_FILLED = 0,             /* no refusal: runs, columns */
-    YURBANTZE_SHORT_BUFFERS = 1,      /* a buffer is too short */
+    YURBANTZE_FILLED = 0,             /* no refusal: runs, columns; of a page, that it is printed */
+    YURBANTZE_SHORT_BUFFERS = 1,      /* a buffer is too short; a sheet handed in has runs, columns or a level count outside 1 to 512, 1 to 128 or
+                                         2 to 64, an entry that is not below its level, or a table or level list that is too short */
     YURBANTZE_UNREADABLE = 2,         /* place of the first number not allowed or left over, or the length if the list runs out */
     YURBANTZE_ENTRY_OUT_OF_RANGE = 3, /* place */
     YURBANTZE_UNEVEN_LEVEL = 4,       /* ingredient, column, level, times */
@@ -33,7 +37,9 @@ enum yurbantze_number {
     YURBANTZE_STEP_NOT_ALLOWED = 8,   /* step */
     YURBANTZE_PARTS_DO_NOT_FIT = 9,   /* step */
     YURBANTZE_NOT_THE_SUM = 10,       /* step, run, member */
-    YURBANTZE_TOO_LARGE = 11          /* step, runs, columns */
+    YURBANTZE_TOO_LARGE = 11,         /* step, runs, columns */
+    YURBANTZE_SHORT_PAGE = 12,        /* the page buffer is too short */
+    YURBANTZE_NO_SUCH_PAGE = 13       /* page 0, or one past the last */
 };
 
 /* Plans an order, and returns answer[0]: 0 for a filled order, and otherwise the number of the refusal.
@@ -63,6 +69,36 @@ size_t yurbantze_plan(
     uint8_t *scratch, size_t scratch_length,
     size_t answer[YURBANTZE_ANSWER_LENGTH],
     int64_t *spare);
+
+/* Prints a page of a sheet, and returns 0, or else the number of the refusal: 1, 12 or 13, the first of these that has a cause.
+ *
+ * table, table_length      The sheet's entries, its runs one after the other from byte 0, as yurbantze_plan leaves them: runs * columns bytes or more,
+ *                          each of those below its level; otherwise the sheet is refused as 1. Bytes after them are not looked at.
+ * levels, levels_length    The level count of each column, 2 to 64, in columns bytes or more; otherwise the sheet is refused as 1. Bytes after them are
+ *                          not looked at.
+ * runs, columns            The sheet's size. Any numbers are answered; outside 1 to 512 and 1 to 128 the sheet is refused as 1, whatever the lengths
+ *                          are. The sheet need not be even, nor come from yurbantze_plan.
+ * number                   The page, from 1. There are (runs + 57) / 58 * ((columns + 24) / 25) pages, so 54 at most; page 0 and any past the last are
+ *                          refused as 13. A caller prints pages 1, 2, .. until 13 is returned.
+ * page, page_length        The page buffer, 4,800 bytes or more; a shorter one is refused as 12. Printed: the page in the first 4,800 bytes, and zeros
+ *                          after them. Refused: zeros throughout.
+ *
+ * A page is 60 lines of 79 characters and a line feed. Line 1: the page number right-aligned in 4 characters, then up to 25 column numbers, each
+ * right-aligned in 3. Line 2: 4 blanks, then the level counts of these columns in 3. Then up to 58 runs: the number of the run in 4, then its levels in
+ * these columns in 3. All else is blank. Columns are numbered from 1 and runs from 0, on every page as they are on the sheet. All runs of the first 25
+ * columns come before those of the next 25.
+ *
+ * What the page buffer holds before the call does not matter. table and levels are read and never altered.
+ *
+ * What a caller owes: no pointer is null, not even one whose length is 0. Each points to as many bytes as its length says, all of which have been
+ * written, whatever they are. Nothing else reads or writes page, or writes table or levels, during the call, and none of the three lies over another.
+ *
+ * The function allocates nothing and keeps nothing between calls, so several threads may call it, each with a page buffer of its own. */
+size_t yurbantze_page(
+    const uint8_t *table, size_t table_length,
+    const uint8_t *levels, size_t levels_length,
+    size_t runs, size_t columns, size_t number,
+    uint8_t *page, size_t page_length);
 
 #ifdef __cplusplus
 }

@@ -5,14 +5,8 @@
  */
 #include <inttypes.h>
 #include <stdio.h>
-#include <stdlib.h>
 
-#include "yurbantze.h"
-
-static uint16_t list[32768];
-static uint8_t table[YURBANTZE_TABLE_LENGTH];
-static uint8_t levels[YURBANTZE_LEVELS_LENGTH];
-static uint8_t scratch[YURBANTZE_SCRATCH_LENGTH];
+#include "order.h"
 
 static void print_row(const uint8_t *row, size_t length)
 {
@@ -21,7 +15,7 @@ static void print_row(const uint8_t *row, size_t length)
     printf("\n");
 }
 
-static void print_table(size_t runs, size_t columns, int64_t spare)
+static void print_table(size_t runs, size_t columns)
 {
     printf("%zu %zu %" PRId64 "\n", runs, columns, spare);
     print_row(levels, columns);
@@ -29,37 +23,11 @@ static void print_table(size_t runs, size_t columns, int64_t spare)
         print_row(table + run * columns, columns);
 }
 
-static void print_refusal(const size_t *numbers)
-{
-    printf("refused");
-    for (size_t i = 0; i < YURBANTZE_ANSWER_LENGTH; i++)
-        printf(" %zu", numbers[i]);
-    printf("\n");
-}
-
 int main(int argc, char **argv)
 {
-    size_t length = (size_t)(argc - 1);
-    if (length > sizeof list / sizeof list[0]) {
-        fprintf(stderr, "more than 32768 numbers\n");
-        return 2;
-    }
-    for (size_t i = 0; i < length; i++) {
-        char *end;
-        unsigned long number = strtoul(argv[i + 1], &end, 10);
-        if (end == argv[i + 1] || *end != '\0' || number > 65535) {
-            fprintf(stderr, "no number up to 65535: %s\n", argv[i + 1]);
-            return 2;
-        }
-        list[i] = (uint16_t)number;
-    }
-    size_t answer[YURBANTZE_ANSWER_LENGTH];
-    int64_t spare;
-    size_t number =
-        yurbantze_plan(list, length, table, sizeof table, levels, sizeof levels, scratch, sizeof scratch, answer, &spare);
-    if (number == YURBANTZE_FILLED)
-        print_table(answer[1], answer[2], spare);
+    if (plan_arguments(argc, argv) == YURBANTZE_FILLED)
+        print_table(answer[1], answer[2]);
     else
-        print_refusal(answer);
+        print_refusal();
     return 0;
 }

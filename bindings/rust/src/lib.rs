@@ -1,11 +1,14 @@
-//! Plans mixed orthogonal run tables: a safe wrapper of `yurbantze_plan`, which is written in Rattle and proved. Its promise is in
-//! crates/exported/specs/Exported.antt; include/yurbantze.h says the same in words.
+//! Plans mixed orthogonal run tables, and prints them on pages: a safe wrapper of `yurbantze_plan` and `yurbantze_page`, which are written in Rattle
+//! and proved. Their promises are their contracts in crates/exported/src/lib.rt; include/yurbantze.h says the same in words.
 use std::fmt;
 
 /// How long the three buffers must be for an order to be planned.
 pub const TABLE_LENGTH: usize = 65536;
 pub const LEVELS_LENGTH: usize = 128;
 pub const SCRATCH_LENGTH: usize = 65536;
+
+/// How long a page is: 60 lines of 79 characters and a line feed.
+pub const PAGE_LENGTH: usize = 4800;
 
 // A slice is handed over as a pointer and a length.
 extern "C" {
@@ -20,6 +23,18 @@ extern "C" {
         scratch_length: usize,
         answer: *mut [usize; 7],
         spare: *mut i64,
+    ) -> usize;
+
+    fn yurbantze_page(
+        table: *const u8,
+        table_length: usize,
+        levels: *const u8,
+        levels_length: usize,
+        runs: usize,
+        columns: usize,
+        number: usize,
+        page: *mut u8,
+        page_length: usize,
     ) -> usize;
 }
 
@@ -58,6 +73,23 @@ impl Table {
     /// The runs in order, each with an entry for each column.
     pub fn runs(&self) -> impl Iterator<Item = &[u8]> {
         self.entries.chunks_exact(self.levels.len())
+    }
+
+    /// The page of a number, from 1, if the table has it: 60 lines of 79 characters, each closed by a line feed.
+    pub fn page(&self, number: usize) -> Option<String> {
+        let mut buffer = vec![0; PAGE_LENGTH];
+        match page(&self.entries, &self.levels, self.runs, self.levels.len(), number, &mut buffer) {
+            Ok(()) => Some(String::from_utf8(buffer).expect("a page is digits, blanks and line feeds")),
+            Err(refusal) => {
+                assert_eq!(refusal, PageRefusal::NoSuchPage, "a table that was planned is refused by no other number");
+                None
+            }
+        }
+    }
+
+    /// All pages in order.
+    pub fn pages(&self) -> impl Iterator<Item = String> + '_ {
+        (1..).map_while(|number| self.page(number))
     }
 }
 
@@ -129,6 +161,48 @@ impl fmt::Display for Refusal {
 
 impl std::error::Error for Refusal {}
 
+/// Why a page is not printed.
+#[derive(Clone, Copy, Debug, PartialEq, Eq)]
+pub enum PageRefusal {
+    /// Runs, columns or a level count outside 1 to 512, 1 to 128 or 2 to 64, an entry that is not below its level, or a table or a level list shorter
+    /// than runs × columns or columns bytes.
+    NotASheet,
+    /// The page buffer is shorter than `PAGE_LENGTH`.
+    ShortPage,
+    /// Page 0, or one past the last.
+    NoSuchPage,
+}
+
+impl PageRefusal {
+    // The refusal of a number that is not 0. The promise says that there are no others.
+    fn from_number(number: usize) -> PageRefusal {
+        match number {
+            1 => PageRefusal::NotASheet,
+            12 => PageRefusal::ShortPage,
+            13 => PageRefusal::NoSuchPage,
+            _ => unreachable!("no page is refused by the number {number}"),
+        }
+    }
+
+    /// The number of the refusal. It has no details.
+    pub fn number(self) -> usize {
+        match self {
+            PageRefusal::NotASheet => 1,
+            PageRefusal::ShortPage => 12,
+            PageRefusal::NoSuchPage => 13,
+        }
+    }
+}
+
+impl fmt::Display for PageRefusal {
+    /// The line that a program prints, without its line feed.
+    fn fmt(&self, f: &mut fmt::Formatter<'_>) -> fmt::Result {
+        write!(f, "refused {} 0 0 0 0 0 0", self.number())
+    }
+}
+
+impl std::error::Error for PageRefusal {}
+
 /// The numbers of runs and columns of a table that was written into buffers, and how much it could still hold (`Table::spare`).
 #[derive(Clone, Copy, Debug, PartialEq, Eq)]
 pub struct Size {
@@ -174,4 +248,30 @@ pub fn plan(list: &[u16]) -> Result<Table, Refusal> {
     entries.truncate(runs * columns);
     levels.truncate(columns);
     Ok(Table { runs, levels, spare, entries })
+}
+
+/// Prints a page of a sheet into a buffer that the caller lends: the entries are in `table`, run by run, the level counts in `levels`, and the page has a
+/// number from 1. Any numbers and bytes are answered, and the sheet need not be even. Printed: the page lies in the first `PAGE_LENGTH` bytes, and zeros
+/// after them. Refused: the buffer is zeros. What it holds before does not matter.
+pub fn page(table: &[u8], levels: &[u8], runs: usize, columns: usize, number: usize, buffer: &mut [u8]) -> Result<(), PageRefusal> {
+    // SAFETY: each pointer is a reference's, with the length of its slice, and so is not null, and points to initialised bytes; the references are
+    // borrowed until the call returns, the one that is written without another. The function requires nothing else, and its proof says that it reads
+    // and writes within those lengths.
+    let answer = unsafe {
+        yurbantze_page(
+            table.as_ptr(),
+            table.len(),
+            levels.as_ptr(),
+            levels.len(),
+            runs,
+            columns,
+            number,
+            buffer.as_mut_ptr(),
+            buffer.len(),
+        )
+    };
+    match answer {
+        0 => Ok(()),
+        _ => Err(PageRefusal::from_number(answer)),
+    }
 }
