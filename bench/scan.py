@@ -1,8 +1,9 @@
 #!/usr/bin/env python3
-"""scan.py PROGRAM SECOND N SEED: N random texts on the standard input of both programs, outputs compared.
+"""scan.py PROGRAM SECOND N SEED [pages]: N random texts on the standard input of both programs, outputs compared.
 
 PROGRAM is given each text in pieces cut at random places, and the next piece only when it has read the one before, so that no read goes over a cut;
-SECOND is given the text whole. The texts are orders, whole or damaged, and streams of bytes. The same SEED makes the same texts and cuts.
+SECOND is given the text whole. The texts are orders, whole or damaged, and streams of bytes. With `pages` both programs are given random arguments too,
+and more of the texts are whole orders. The same SEED makes the same texts, cuts and arguments.
 """
 
 import collections
@@ -167,6 +168,34 @@ def make_text(rng):
     return rng.choices(kinds, [30, 25, 15, 10, 2, 18])[0](rng)
 
 
+# Arguments of a program that prints pages. None holds a zero byte.
+
+
+def page_word(rng):
+    """A number that is often that of a page, or a word that is none."""
+    strange = [this for this in STRANGE_WORDS if b"\0" not in this]
+    numbers = [1, rng.randint(1, 4), rng.randint(1, 54), 0, 55, 65535]
+    kinds = [*(word(rng, number) for number in numbers), rng.choice(strange)]
+    return rng.choices(kinds, [35, 20, 10, 6, 4, 4, 21])[0]
+
+
+def page_argument(rng):
+    """One word, perhaps with blanks around it; or none, or several."""
+    count = rng.choices([0, 1, 2, 3], [8, 84, 5, 3])[0]
+    return text_of(rng, [page_word(rng) for _ in range(count)])
+
+
+def page_arguments(rng):
+    return [page_argument(rng) for _ in range(rng.choices([0, 1, 2], [15, 75, 10])[0])]
+
+
+def text_and_arguments(rng, pages):
+    if not pages:
+        return make_text(rng), []
+    text = whole_text(rng) if rng.random() < 0.7 else make_text(rng)
+    return text, page_arguments(rng)
+
+
 def cut(rng, text):
     """Pieces of the text: now and then every byte of a short one, mostly a few."""
     if len(text) <= 60 and rng.random() < 0.3:
@@ -197,11 +226,11 @@ def feed(pipe, pieces):
     return read
 
 
-def output_in_pieces(program, pieces):
+def output_in_pieces(command, pieces):
     """What the program prints, its exit status, and how many pieces it had read before the next. The output goes to a file, so that a program
     that prints before it has read everything does not wait for a reader."""
     with tempfile.TemporaryFile() as output:
-        process = subprocess.Popen([program], stdin=subprocess.PIPE, stdout=output, bufsize=0)
+        process = subprocess.Popen(command, stdin=subprocess.PIPE, stdout=output, bufsize=0)
         pieces_read = 0
         try:
             pieces_read = feed(process.stdin.fileno(), pieces)
@@ -219,19 +248,20 @@ def kind_of(output):
 
 
 def main():
-    if len(sys.argv) != 5:
-        sys.exit("scan.py PROGRAM SECOND N SEED")
+    if len(sys.argv) not in (5, 6) or sys.argv[5:] not in ([], ["pages"]):
+        sys.exit("scan.py PROGRAM SECOND N SEED [pages]")
     program, second = sys.argv[1:3]
-    count, seed = map(int, sys.argv[3:])
+    count, seed = map(int, sys.argv[3:5])
+    pages = len(sys.argv) == 6
     kinds = collections.Counter()
     differing = []
     pieces_written = pieces_read = 0
     for index in range(count):
         rng = random.Random(f"{seed} {index}")
-        text = make_text(rng)
+        text, arguments = text_and_arguments(rng, pages)
         pieces = cut(rng, text)
-        wanted = subprocess.run([second], input=text, stdout=subprocess.PIPE, check=True).stdout
-        output, status, read = output_in_pieces(program, pieces)
+        wanted = subprocess.run([second, *arguments], input=text, stdout=subprocess.PIPE, check=True).stdout
+        output, status, read = output_in_pieces([program, *arguments], pieces)
         if (output, status) != (wanted, 0):
             differing.append(index)
         kinds[kind_of(wanted)] += 1

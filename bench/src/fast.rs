@@ -5,11 +5,14 @@
 //! the field of two elements with factors of one column, SUM without a k and with one kind of sum for
 //! all columns, SPLIT by house table 101, no other house table, no refusal of a generator or a step.
 //! For an order that needs more the answer is None.
+//!
+//! `pages` is apart from that, and whole: any page of any sheet.
 
 mod build;
 pub mod common_bits;
 mod count;
 mod nine;
+pub mod pages;
 mod read;
 
 use crate::planners::{refused, Buffers, Numbers, Outcome};

@@ -1,15 +1,20 @@
-//! `bench [PLANNER]`: how long the proved planner takes, always as a ratio to something else.
+//! `bench [PLANNER]`: how long the proved planner and a proved page take, always as a ratio to something
+//! else.
 
 #![forbid(unsafe_code)]
 
 use bench::fast;
 use bench::orders::{cases, least_order, table_order, Case};
 use bench::planners::{plain, proved, Buffers, Outcome};
+use bench::printers::{self, Printer};
+use bench::sheets::{page_cases, PageCase};
 use bench::timing::{least_times, ratio, time_of, Effort};
+use second::pages::PAGE_LENGTH;
 use second::LEAST;
 use std::env;
 use std::ffi::OsStr;
 use std::fs::{create_dir, remove_dir_all, write, File};
+use std::hint::black_box;
 use std::io;
 use std::path::{Path, PathBuf};
 use std::process::{self, Command, Stdio};
@@ -32,6 +37,10 @@ fn main() -> io::Result<()> {
     println!("proved planner / second implementation, and / fast safe Rust");
     for case in &cases {
         print_against_rust(case);
+    }
+    println!("\nproved page / second implementation, and / fast safe Rust");
+    for case in page_cases() {
+        print_page_times(&case);
     }
     println!("\nproved planner / pairs counted by common bits, what a later request could gain");
     for case in &cases[..2] {
@@ -96,6 +105,40 @@ fn assert_all_agree(planners: &[Planner], list: &[u16]) {
         (planner(list, &mut buffers), buffers)
     });
     let answers: Vec<(Outcome, Buffers)> = answers.collect();
+    assert!(
+        answers.windows(2).all(|two| two[0] == two[1]),
+        "an answer or a byte differs"
+    );
+}
+
+fn print_page_times(case: &PageCase) {
+    let mut buffer = vec![0; PAGE_LENGTH];
+    for &number in &case.numbers {
+        assert_pages_agree(case, number);
+    }
+    let times = least_times(CALLS, printers::ALL.len(), |which| {
+        time_of(|| {
+            for &number in &case.numbers {
+                put_page(printers::ALL[which], case, number, &mut buffer);
+                black_box(&buffer);
+            }
+        })
+    });
+    let ratios: Vec<f64> = times[1..].iter().map(|&t| ratio(times[0], t)).collect();
+    print_line(&case.name, &ratios);
+}
+
+fn put_page(printer: Printer, case: &PageCase, number: usize, buffer: &mut [u8]) -> usize {
+    let PageCase { runs, columns, .. } = *case;
+    printer(&case.table, &case.levels, runs, columns, number, buffer)
+}
+
+/// Also on the bytes past the page.
+fn assert_pages_agree(case: &PageCase, number: usize) {
+    let answers = printers::ALL.map(|printer| {
+        let mut buffer = vec![255; PAGE_LENGTH + 80];
+        (put_page(printer, case, number, &mut buffer), buffer)
+    });
     assert!(
         answers.windows(2).all(|two| two[0] == two[1]),
         "an answer or a byte differs"

@@ -1,20 +1,23 @@
-//! `compare N SEED`: N made orders, with the seeds from SEED on, through the static library, with
-//! other bytes in the three buffers before each call. Answer, six details, the spare of a filled
-//! order and every byte of the buffers are compared with the second implementation's.
+//! `compare N SEED`: N made orders, and N made calls for pages, with the seeds from SEED on, through the
+//! static library, with other bytes in the buffers before each call. Answer, six details, the spare of
+//! a filled order and every byte of the buffers are compared with the second implementation's.
 
 #![forbid(unsafe_code)]
 
 use bench::planners::{plain, proved, Buffers};
+use bench::printers::proved as proved_page;
 use second::maker::{make, Call, Random};
+use second::page_calls::{self, PageCall};
 use std::collections::BTreeMap;
 use std::env;
+use std::ops::Range;
 use std::process::ExitCode;
 
 fn main() -> ExitCode {
     let arguments: Vec<String> = env::args().skip(1).collect();
     let numbers: Option<Vec<u64>> = arguments.iter().map(|word| word.parse().ok()).collect();
     match numbers.as_deref() {
-        Some(&[count, seed]) => compare(count, seed),
+        Some(&[count, seed]) => compare(seed..seed + count),
         _ => {
             eprintln!("compare N SEED");
             ExitCode::from(2)
@@ -22,47 +25,101 @@ fn main() -> ExitCode {
     }
 }
 
-fn compare(count: u64, first_seed: u64) -> ExitCode {
-    let mut answers: BTreeMap<usize, usize> = BTreeMap::new();
-    let mut differing = Vec::new();
-    for seed in first_seed..first_seed + count {
-        let call = make(seed);
-        let mut wanted_bytes = Buffers::zeros(call.lengths);
-        let wanted = plain(&call.list, &mut wanted_bytes);
-        let mut bytes = other_bytes(&call, seed);
-        let outcome = proved(&call.list, &mut bytes);
-        if outcome != wanted || bytes != wanted_bytes {
-            differing.push(seed);
+fn compare(seeds: Range<u64>) -> ExitCode {
+    let orders = Findings::of(seeds.clone(), try_order);
+    orders.print("orders", "filled", &seeds);
+    let pages = Findings::of(seeds.clone(), try_page);
+    pages.print("calls for pages", "printed", &seeds);
+    let all_agree = orders.differing.is_empty() && pages.differing.is_empty();
+    ExitCode::from(u8::from(!all_agree))
+}
+
+/// The number that is answered, and whether all agrees.
+struct Trial {
+    number: usize,
+    agrees: bool,
+}
+
+/// How often each number was answered, and the seeds of the calls that differ.
+#[derive(Default)]
+struct Findings {
+    answers: BTreeMap<usize, usize>,
+    differing: Vec<u64>,
+}
+
+impl Findings {
+    fn of(seeds: Range<u64>, mut trial: impl FnMut(u64) -> Trial) -> Findings {
+        let mut findings = Findings::default();
+        for seed in seeds {
+            let Trial { number, agrees } = trial(seed);
+            *findings.answers.entry(number).or_default() += 1;
+            if !agrees {
+                findings.differing.push(seed);
+            }
         }
-        *answers.entry(wanted.numbers[0]).or_default() += 1;
+        findings
     }
 
-    println!("{count} orders, seeds from {first_seed} on");
-    for (number, times) in answers {
-        match number {
-            0 => println!("  filled: {times}"),
-            _ => println!("  refused {number}: {times}"),
+    fn print(&self, what: &str, not_refused: &str, seeds: &Range<u64>) {
+        println!(
+            "{} {what}, seeds from {} on",
+            seeds.end - seeds.start,
+            seeds.start
+        );
+        for (number, times) in &self.answers {
+            match number {
+                0 => println!("  {not_refused}: {times}"),
+                _ => println!("  refused {number}: {times}"),
+            }
+        }
+        println!("{} differ", self.differing.len());
+        for seed in self.differing.iter().take(20) {
+            println!("  seed {seed}");
         }
     }
-    println!("{} differ", differing.len());
-    for seed in differing.iter().take(20) {
-        println!("  seed {seed}");
+}
+
+fn try_order(seed: u64) -> Trial {
+    let call = make(seed);
+    let mut wanted_bytes = Buffers::zeros(call.lengths);
+    let wanted = plain(&call.list, &mut wanted_bytes);
+    let mut bytes = other_bytes(&call, seed);
+    let outcome = proved(&call.list, &mut bytes);
+    Trial {
+        number: wanted.numbers[0],
+        agrees: outcome == wanted && bytes == wanted_bytes,
     }
-    ExitCode::from(u8::from(!differing.is_empty()))
+}
+
+fn try_page(seed: u64) -> Trial {
+    let call = page_calls::make(seed, &page_calls::ANY);
+    let mut wanted_bytes = vec![0; call.room];
+    let wanted = call.answer_into(&mut wanted_bytes);
+    let mut bytes = random_bytes(&mut Random::new(!seed), call.room);
+    let PageCall { runs, columns, .. } = call;
+    let table = call.table();
+    let number = proved_page(&table, &call.levels, runs, columns, call.number, &mut bytes);
+    Trial {
+        number: wanted,
+        agrees: number == wanted && bytes == wanted_bytes,
+    }
 }
 
 /// Buffers full of random bytes, so that one that should be written and is not is seen.
 fn other_bytes(call: &Call, seed: u64) -> Buffers {
     let random = &mut Random::new(!seed);
-    let mut buffers = Buffers::zeros(call.lengths);
-    for buffer in [
-        &mut buffers.table,
-        &mut buffers.levels,
-        &mut buffers.scratch,
-    ] {
-        for bytes in buffer.chunks_mut(8) {
-            bytes.copy_from_slice(&random.word().to_le_bytes()[..bytes.len()]);
-        }
+    let [table, levels, scratch] = call.lengths.map(|length| random_bytes(random, length));
+    Buffers {
+        table,
+        levels,
+        scratch,
     }
-    buffers
+}
+
+fn random_bytes(random: &mut Random, length: usize) -> Vec<u8> {
+    let mut buffer = vec![0; length];
+    for bytes in buffer.chunks_mut(8) {
+        bytes.copy_from_slice(&random.word().to_le_bytes()[..bytes.len()]);
+    }
+    buffer
 }
