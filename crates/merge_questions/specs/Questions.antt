@@ -1,17 +1,14 @@
--- MERGE's questions 6 and 7 on bytes: what the functions that ask them take and answer (document 01, "Steps by kind", step 4).
+-- The members of a MERGE on bytes: what the functions that ask question 6 and question 7 take, and the roles that question 6 gives (document 01,
+-- "Steps by kind", step 4).
 use mathlib.Core.Path.{_≡_}
 use mathlib.Core.Bool.{cond}
 use mathlib.Core.List.{List, [], _∷_, map}
-use mathlib.Core.Option.{Option, none, some}
 use Prim.Native.Nat.{ℕ, _+_, _-_, _*_, _≤_, _<_}
 use lib.Dec.{eqb}
 use lib.ListN.{length, getD}
-use Rattle.finite.specs.First.{first}
 use Rattle.galois.specs.Arithmetic.{member}
-use Rattle.counting.specs.Table.{Table, InRange, tableOf}
-use Rattle.step_tables.specs.Merge.{MergeFits, MemberFault, memberFaultAt}
-use Rattle.merge_questions.specs.declared.Fault.{Fault}
-use Rattle.merge_questions.specs.declared.Fault.the-variants.{Nowhere, At}
+use Rattle.counting.specs.Table.{InRange, tableOf}
+use Rattle.step_tables.specs.Merge.{MergeFits}
 
 -- the members' columns from 0, which the list names from 1
 abbrev pub membersOf : List ℕ → List ℕ
@@ -39,16 +36,3 @@ roleOf (c ∷ cs) q = cond (eqb q c) 1 (cond (member q cs) 2 0)
 -- each column's role stands at its place
 unfoldable pub HasRoles : List ℕ → List ℕ → Type 0
 HasRoles cs roles = (q : ℕ) → getD roles q 0 ≡ roleOf cs q
-
--- a table in which every run is the same row
-unfoldable pub everyRun : List ℕ → Table
-everyRun row = record { runs = 1; levels = row; cell = λ r c. getD row c 0 }
-
--- question 7 in run r: the lowest member that is not its sum; members 3 to p + 1
-unfoldable pub runFault : ℕ → List ℕ → Table → ℕ → Option MemberFault
-runFault p cs S r = first (p - 1) (λ k. memberFaultAt p cs S r (k + 3))
-
--- what was found, as the code answers it
-abbrev pub asFault : Option MemberFault → Fault
-asFault none = Nowhere
-asFault (some fault) = At (fault .run) (fault .member-number)

@@ -22,12 +22,13 @@ use Rattle.step_tables.proofs.Merge.{merge-columns}
 use Rattle.step_tables.proofs.StepQuestions.{size-decides, merge-decides}
 use Rattle.layout.specs.Bytes.{zeros, sheetIn}
 use Rattle.layout.specs.Step.{Readable, Stands, Ready, laterIn, Left}
-use Rattle.merge_questions.specs.Questions.{membersOf, Named, Fitting, roleOf, HasRoles, asFault}
+use Rattle.merge_questions.specs.Questions.{membersOf, Named, Fitting, roleOf, HasRoles}
+use Rattle.member_check.specs.MemberCheck.{asFault}
 use Rattle.layout.specs.declared.Size.{Size}
-use Rattle.merge_questions.specs.declared.Fault.the-variants.{Nowhere, At}
+use Rattle.member_check.specs.declared.Fault.the-variants.{Nowhere, At}
 use Rattle.layout.proofs.Sheets.{ready-few, ready-used}
 use Rattle.layout.proofs.Operands.{later-in, operands-stand}
-use Rattle.merge_questions.proofs.Members.{at-found, nowhere-found}
+use Rattle.member_check.proofs.Members.{at-found, nowhere-found}
 
 true-of : (b : Bool) → T b → b ≡ true
 true-of true t = refl

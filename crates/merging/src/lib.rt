@@ -1,8 +1,8 @@
 // Step 4, MERGE p, c1 .. c(p+1): the members, p + 1 columns of p levels, become one column of p × p levels. The list names columns from 1.
 use layout::Size;
-use merge_questions::Fault;
+use member_check::Fault;
+use member_check::wrong_member;
 use merge_questions::assign_roles;
-use merge_questions::wrong_member;
 use merged_sheet::merge_sheet;
 use sheets::answer::Answer;
 use sheets::answer::Refusal;

@@ -4,10 +4,10 @@ use Prim.Native.Nat.{ℕ, _+_, _-_, _*_, _≤_, _<_}
 use native.Mathlib.Omega.{arith}
 use borrow.Author.Needs.{needs}
 use lib.ListN.{length, getD}
 use Rattle.merge_questions.specs.Questions.{membersOf}
-use Rattle.merge_questions.proofs.Members.{member-in, RightBefore, right-none, right-next, wrong-found, none-wrong, sum-fits}
-use Rattle.merge_questions.proofs.wrong_in_run.Statement.{statement}
-use Rattle.merge_questions.proofs.wrong_in_run.Tie as tie
+use Rattle.member_check.proofs.Members.{member-in, RightBefore, right-none, right-next, wrong-found, none-wrong, sum-fits}
+use Rattle.member_check.proofs.wrong_in_run.Statement.{statement}
+use Rattle.member_check.proofs.wrong_in_run.Tie as tie
 
 abbrev Inv-loop : tie.InvT-loop
 Inv-loop members p row run c1 c2 first second h₀ h =

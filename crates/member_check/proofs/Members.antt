@@ -13,9 +13,10 @@ use Rattle.finite.specs.Lists.{AllBelow}
 use Rattle.finite.proofs.Firsts.{first-none, first-at, first-ext}
 use Rattle.counting.specs.Table.{Table, tableOf}
 use Rattle.step_tables.specs.Merge.{memberAt, memberSum, MemberFault, memberFaultAt, memberFault}
-use Rattle.merge_questions.specs.Questions.{membersOf, Fitting, everyRun, runFault, asFault}
-use Rattle.merge_questions.specs.declared.Fault.the-variants.{Nowhere, At}
+use Rattle.merge_questions.specs.Questions.{membersOf, Fitting}
+use Rattle.member_check.specs.MemberCheck.{everyRun, runFault, asFault}
+use Rattle.member_check.specs.declared.Fault.the-variants.{Nowhere, At}
 use Rattle.merge_questions.proofs.Runs.{partOf, member-column, row-length, row-cell}
 
 -- ---- the members of one run
 

@@ -7,11 +7,11 @@ use borrow.Author.Needs.{needs}
 use lib.ListN.{length}
 use Rattle.finite.proofs.Fits.{run-more}
 use Rattle.counting.specs.Table.{tableOf}
 use Rattle.merge_questions.specs.Questions.{membersOf}
 use Rattle.merge_questions.proofs.Runs.{row-end}
-use Rattle.merge_questions.proofs.Members.{members-in-row, RightRuns, runs-right-none, runs-right-next, runs-wrong, runs-right}
-use Rattle.merge_questions.proofs.wrong_member.Statement.{statement}
-use Rattle.merge_questions.proofs.wrong_member.Tie as tie
+use Rattle.member_check.proofs.Members.{members-in-row, RightRuns, runs-right-none, runs-right-next, runs-wrong, runs-right}
+use Rattle.member_check.proofs.wrong_member.Statement.{statement}
+use Rattle.member_check.proofs.wrong_member.Tie as tie
 
 abbrev Inv-loop : tie.InvT-loop
 Inv-loop members p table levels runs columns start₀ run₀ start run =

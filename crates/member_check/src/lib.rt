@@ -1,0 +1,59 @@
+// Question 7 of step 4, MERGE p, c1 .. c(p+1): is each member from the third on its sum in every run?
+ghost use mathlib.Core.Path.{_≡_};
+ghost use lib.ListN.{length};
+ghost use Rattle.finite.specs.Lists.{AllBelow};
+ghost use Rattle.counting.specs.Table.{tableOf};
+ghost use Rattle.step_tables.specs.Merge.{memberFault};
+ghost use Rattle.merge_questions.specs.Questions.{membersOf, Named, Fitting};
+ghost use Rattle.member_check.specs.MemberCheck.{everyRun, runFault, asFault};
+use merge_questions::column_of;
+
+// A member that is not its sum: the run, from 0, and the member's number, from 1.
+pub enum Fault {
+    Nowhere,
+    At { run: usize, member: usize },
+}
+
+// Question 7: the lowest run with a member that is not its sum, and the lowest member in it.
+pub fn wrong_member(members: &[u16], p: usize, table: &[u8], levels: &[u8], runs: usize) -> Fault
+    requires { ⌜ Fitting p (now members) (now table) (now levels) runs ⌝ }
+    ensures { λ r. ⌜ r ≡ asFault (memberFault p (membersOf (now (members .entry))) (tableOf (now (table .entry)) (now (levels .entry)) runs)) ⌝ }
+{
+    let columns = levels.len();
+    let mut start = 0;
+    let mut run = 0;
+    while run < runs {
+        let end = start + columns;
+        let fault = wrong_in_run(members, p, &table[start..end], run);
+        match fault {
+            Fault::At { run: there, member } => {
+                return Fault::At { run: there, member };
+            }
+            Fault::Nowhere => {}
+        }
+        start = end;
+        run += 1;
+    }
+    Fault::Nowhere
+}
+
+// The lowest member of one run that is not its sum: the member at h, from 0, is c1 + (h - 1) × c2 modulo p.
+fn wrong_in_run(members: &[u16], p: usize, row: &[u8], run: usize) -> Fault
+    requires { ⌜ Named p (now members) ⌝ }
+    requires { ⌜ AllBelow (length (now row)) (membersOf (now members)) ⌝ }
+    ensures { λ r. ⌜ r ≡ asFault (runFault p (membersOf (now (members .entry))) (everyRun (now (row .entry))) run) ⌝ }
+{
+    let c1 = column_of(members, 0);
+    let c2 = column_of(members, 1);
+    let first = row[c1] as usize;
+    let second = row[c2] as usize;
+    let mut h = 2;
+    while h < members.len() {
+        let column = column_of(members, h);
+        if row[column] as usize != (first + (h - 1) * second) % p {
+            return Fault::At { run, member: h + 1 };
+        }
+        h += 1;
+    }
+    Fault::Nowhere
+}
