@@ -16,8 +16,8 @@ use Rattle.pieces.proofs.Lists.{map-same, flatMap-same}
 use Rattle.page_text.specs.Pages.{pageCount, firstRun, firstColumn, upTo, columnsOn, numberLine, countLine, runLine, pageLine, pageText}
 use Rattle.page_text.proofs.Lines.{columns-are}
 use Rattle.page_report.specs.PageReport.{allPages, sheetPages}
-use Rattle.page_report.specs.declared.Asked.{Asked}
-use Rattle.page_report.specs.declared.Asked.the-variants.{All, One}
+use Rattle.page_argument.specs.declared.Asked.{Asked}
+use Rattle.page_argument.specs.declared.Asked.the-variants.{All, One}
 
 flatMap-agree : (f g : ℕ → List ℕ) → ((n : ℕ) → f n ≡ g n) → (ns : List ℕ) → flatMap f ns ≡ flatMap g ns
 unfolding flatMap

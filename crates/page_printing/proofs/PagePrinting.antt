@@ -23,7 +23,7 @@ use Rattle.layout.proofs.Sheets.{holds-agrees}
 use Rattle.promise.specs.Promise.{suffice, planned, answerTo, tableBytes, levelBytes, Promise}
 use Rattle.promise.proofs.Promises.{long-enough, refused-unfilled, filled-answer, asked-first, padded-holds}
 use Rattle.page_report.specs.PageReport.{sheetPages, outcomePages}
-use Rattle.page_report.specs.declared.Asked.{Asked}
+use Rattle.page_argument.specs.declared.Asked.{Asked}
 use Rattle.page_printing.proofs.Agreement.{pages-agree}
 
 -- a refused answer is an outcome's

@@ -5,7 +5,7 @@ ghost use Rattle.buffers.specs.Put.{Put};
 ghost use Rattle.promise.specs.Promise.{planned};
 ghost use Rattle.page_report.specs.PageReport.{outcomePages, pageRoom};
 use construction::plan;
-use page_report::Asked;
+use page_argument::Asked;
 use page_report::put_asked;
 use report::put_refused;
 use sheets::answer::Answer;

@@ -19,7 +19,7 @@ use Rattle.page_text.proofs.Counts.{pages-most}
 use Rattle.page_text.proofs.Lines.{page-length}
 use Rattle.page_text.proofs.Rooms.{given-room}
 use Rattle.page_report.specs.PageReport.{allPages, noSuchPage, sheetPages}
-use Rattle.page_report.specs.declared.Asked.the-variants.{One}
+use Rattle.page_argument.specs.declared.Asked.the-variants.{One}
 
 -- ---- pieces from 1 on
 

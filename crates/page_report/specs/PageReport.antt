@@ -6,14 +6,14 @@ use lib.Dec.{leb}
 use Rattle.finite.specs.Lists.{from}
 use Rattle.counting.specs.Table.{Table, columns}
 use Rattle.lines.specs.Lines.{refusedLine}
-use Rattle.words.specs.Words.{Reading, numbers, refused, reading}
+use Rattle.words.specs.Words.{Reading, numbers, refused}
 use Rattle.sheets.specs.Steps as steps
 use Rattle.sheets.specs.Outcome.{outcome}
 use Rattle.sheets.specs.declared.answer.Refusal.the-variants.{Unreadable}
 use Rattle.report.specs.Report.{refusalLine}
 use Rattle.page_text.specs.Pages.{pageCount, pageText}
-use Rattle.page_report.specs.declared.Asked.{Asked}
-use Rattle.page_report.specs.declared.Asked.the-variants.{All, One}
+use Rattle.page_argument.specs.declared.Asked.{Asked}
+use Rattle.page_argument.specs.declared.Asked.the-variants.{All, One}
 
 -- all pages of a sheet, one after the other: "Pages count from 1"
 unfoldable pub allPages : Table → List ℕ
@@ -41,17 +41,3 @@ readingPages asked (refused place) = refusalLine (Unreadable place)
 -- Room for any of these: 54 pages of 4,800 bytes.
 abbrev pub pageRoom : ℕ
 pageRoom = 259200
-
--- The page that an argument asks for: its number, where it is one decimal number up to 65,535, as the words of an order are; any other argument asks for
--- page 0, which no sheet has.
-abbrev pub soleNumber : List ℕ → ℕ
-soleNumber [] = 0
-soleNumber (n ∷ []) = n
-soleNumber (n ∷ m ∷ ns) = 0
-
-abbrev pub numberRead : Reading → ℕ
-numberRead (numbers ns) = soleNumber ns
-numberRead (refused place) = 0
-
-unfoldable pub askedBy : List ℕ → Asked
-askedBy argument = One (numberRead (reading argument))

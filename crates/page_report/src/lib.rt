@@ -1,44 +1,14 @@
 // What the program of run sheets prints of an order (document 02, K3). It is put whole into a buffer, so that a program only has to read, to plan and to write.
-ghost use mathlib.Core.Path.{_≡_};
 ghost use Prim.Native.Nat.{_≤_};
-ghost use lib.ListN.{length, take};
+ghost use lib.ListN.{length};
 ghost use Rattle.buffers.specs.Put.{Put};
 ghost use Rattle.given_sheet.specs.Given.{WellFormed, givenSheet};
-ghost use Rattle.page_report.specs.PageReport.{allPages, sheetPages, pageRoom, soleNumber, askedBy};
-ghost use Rattle.page_report.specs.declared.Asked.the-variants.{One};
+ghost use Rattle.page_argument.specs.declared.Asked.the-variants.{One};
+ghost use Rattle.page_report.specs.PageReport.{allPages, sheetPages, pageRoom};
 use lines::put_refusal;
+use page_argument::Asked;
 use page_putting::page_count;
 use page_putting::put_page;
-use whole_text::scan;
-use words::Scanned;
-
-// The pages that are asked for: all of a sheet's, or the one with a number.
-pub enum Asked {
-    All,
-    One(usize),
-}
-
-// What an argument asks for: the page whose number it is. One that is no number, as the words of an order are read, asks for page 0, which no sheet has.
-pub fn asked_by(argument: &[u8]) -> Asked
-    ensures { λ r. ⌜ r ≡ askedBy (now (argument .entry)) ⌝ }
-{
-    let mut list = [0u16; 32768];
-    match scan(argument, &mut list) {
-        Scanned::Numbers { count } => the_number(&list, count),
-        Scanned::Refused { place: _ } => Asked::One(0),
-    }
-}
-
-// The page that so many numbers at the front of a list ask for.
-fn the_number(list: &[u16], count: usize) -> Asked
-    requires { ⌜ count ≤ length (now list) ⌝ }
-    ensures { λ r. ⌜ r ≡ One (soleNumber (take count (now (list .entry)))) ⌝ }
-{
-    if count == 1 {
-        return Asked::One(list[0] as usize);
-    }
-    Asked::One(0)
-}
 
 // Puts the pages of a sheet that are asked for at the front of a buffer, or the refusal of a page that there is not.
 pub fn put_asked(

@@ -7,7 +7,7 @@ use Rattle.buffers.specs.Put.{Put}
 use Rattle.sheets.specs.Outcome.{outcome}
 use Rattle.promise.specs.Promise.{planned}
 use Rattle.page_report.specs.PageReport.{outcomePages}
-use Rattle.page_report.specs.declared.Asked.{Asked}
+use Rattle.page_argument.specs.declared.Asked.{Asked}
 
 pub pages-put : (asked : Asked) (list : List ℕ) {n m k : ℕ} {before after : List ℕ} {at end : ℕ} → 65536 ≡ n → 128 ≡ m → 65536 ≡ k
     → Put before at (outcomePages asked (planned list n m k)) after end → Put before at (outcomePages asked (outcome list)) after end

@@ -7,8 +7,8 @@ use native.Mathlib.Nat.{not-suc-le-zero}
 use native.Mathlib.Omega.{arith}
 use lib.ListN.{length, getD, take}
 use Rattle.words.specs.Words.{numbers, refused, reading}
-use Rattle.page_report.specs.PageReport.{soleNumber, askedBy}
-use Rattle.page_report.specs.declared.Asked.the-variants.{One}
+use Rattle.page_argument.specs.PageArgument.{soleNumber, askedBy}
+use Rattle.page_argument.specs.declared.Asked.the-variants.{One}
 
 -- one number at the front of a list, and any other count of them
 pub sole-one : (list : List ℕ) {count : ℕ} → count ≡ 1 → count ≤ length list → getD list 0 0 ≡ soleNumber (take count list)

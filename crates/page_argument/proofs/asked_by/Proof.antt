@@ -4,9 +4,9 @@ use native.Mathlib.Omega.{arith}
 use borrow.Author.Needs.{needs}
 use Rattle.words.proofs.Bounds.{ended-room}
 use Rattle.whole_text.proofs.Whole.{reads-numbers, reads-refused}
-use Rattle.page_report.proofs.Argument.{asked-numbers, asked-refused}
-use Rattle.page_report.proofs.asked_by.Statement.{statement}
-use Rattle.page_report.proofs.asked_by.Tie as tie
+use Rattle.page_argument.proofs.Argument.{asked-numbers, asked-refused}
+use Rattle.page_argument.proofs.asked_by.Statement.{statement}
+use Rattle.page_argument.proofs.asked_by.Tie as tie
 
 scan-requires : tie.Need-scan-requires
 scan-requires c κs = search needs

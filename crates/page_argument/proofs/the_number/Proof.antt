@@ -2,10 +2,10 @@
 use mathlib.Core.Path.{ap}
 use native.Mathlib.Omega.{arith}
 use borrow.Author.Needs.{needs}
-use Rattle.page_report.specs.declared.Asked.the-variants.{One}
-use Rattle.page_report.proofs.Argument.{sole-one, sole-other}
-use Rattle.page_report.proofs.the_number.Statement.{statement}
-use Rattle.page_report.proofs.the_number.Tie as tie
+use Rattle.page_argument.specs.declared.Asked.the-variants.{One}
+use Rattle.page_argument.proofs.Argument.{sole-one, sole-other}
+use Rattle.page_argument.proofs.the_number.Statement.{statement}
+use Rattle.page_argument.proofs.the_number.Tie as tie
 
 shared-slice-read-t5 : tie.Need-shared-slice-read-t5
 shared-slice-read-t5 c = search needs
