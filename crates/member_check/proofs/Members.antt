@@ -4,23 +4,46 @@ use mathlib.Core.Path.{_≡_, refl, sym, _∙_, ap}
 use mathlib.Core.List.{List}
 use mathlib.Core.Option.{Option, none, some}
 use Prim.Native.Nat.{ℕ, _+_, _-_, _*_, _%_, _≤_, _<_}
-use native.Mathlib.Nat.{mul-le-mul}
+use native.Mathlib.Nat.{add-assoc, add-zero, zero-mul, mod-lt, mod-eq-of-lt, mod-add-mod}
 use native.Mathlib.Omega.{arith}
 use borrow.Author.Count.{below-more}
 use borrow.Author.Tests.{eq-eqb, ne-eqb}
 use lib.ListN.{length, getD, length-map}
 use Rattle.finite.specs.Lists.{AllBelow}
 use Rattle.finite.proofs.Firsts.{first-none, first-at, first-ext}
+use Rattle.finite.proofs.Fits.{run-more}
 use Rattle.counting.specs.Table.{Table, tableOf}
 use Rattle.step_tables.specs.Merge.{memberAt, memberSum, MemberFault, memberFaultAt, memberFault}
 use Rattle.merge_questions.specs.Questions.{membersOf, Fitting}
-use Rattle.member_check.specs.MemberCheck.{everyRun, runFault, asFault}
+use Rattle.member_check.specs.MemberCheck.{LevelsBelow, everyRun, runFault, asFault}
 use Rattle.member_check.specs.declared.Fault.the-variants.{Nowhere, At}
-use Rattle.merge_questions.proofs.Runs.{partOf, member-column, row-length, row-cell}
+use Rattle.merge_questions.proofs.Runs.{partOf, member-column, member-level, row-length, row-cell}
 
 -- ---- the members of one run
 
 module _ (p : ℕ) (cs row : List ℕ) (r : ℕ) where
+  -- c1 + (h - 2) × c2 modulo p in this row
+  abbrev rowSum : ℕ → ℕ
+  rowSum h = memberSum p cs (everyRun row) r h
+
+  -- it begins with c1 itself
+  pub sum-first : {c1 : ℕ} → c1 ≡ getD cs 0 0 → getD row c1 0 < p → getD row c1 0 ≡ rowSum 2
+  unfolding memberSum everyRun
+  sum-first {c1} e below = rw (← e, zero-mul (getD row (getD cs 1 0) 0), add-zero (getD row c1 0)) (sym (mod-eq-of-lt below))
+
+  -- and the next is one c2 more
+  pub sum-next : {c2 sum : ℕ} → c2 ≡ getD cs 1 0 → (h : ℕ) → 2 ≤ h → sum ≡ rowSum h → (sum + getD row c2 0) % p ≡ rowSum (h + 1)
+  unfolding memberSum everyRun
+  sum-next {c2} e h second so-far =
+      let more : h + 1 - 2 ≡ h - 2 + 1 = omega arith in
+      rw (so-far, more, run-more (h - 2) (getD row (getD cs 1 0) 0), ← e)
+      (mod-add-mod (getD row (getD cs 0 0) 0 + (h - 2) * getD row c2 0) p (getD row c2 0)
+      ∙ ap (λ (n : ℕ). n % p) (add-assoc (getD row (getD cs 0 0) 0) ((h - 2) * getD row c2 0) (getD row c2 0)))
+
+  pub sum-below : {sum : ℕ} → 0 < p → (h : ℕ) → sum ≡ rowSum h → sum < p
+  unfolding memberSum
+  sum-below positive h e = rw e (mod-lt _ positive)
+
   -- the first h members are right; h counts members from 0
   unfoldable pub RightBefore : ℕ → Type 0
   RightBefore h = (k : ℕ) → k < h - 2 → memberFaultAt p cs (everyRun row) r (k + 3) ≡ none
@@ -29,36 +52,32 @@ module _ (p : ℕ) (cs row : List ℕ) (r : ℕ) where
   unfolding RightBefore
   right-none k h = absurd (omega arith)
 
-  -- the members c1 and c2, and member h
-  module _ {c1 c2 c : ℕ} (h : ℕ) (e1 : c1 ≡ getD cs 0 0) (e2 : c2 ≡ getD cs 1 0) (e : c ≡ getD cs h 0) (third : 2 ≤ h) where
+  -- the member at h
+  module _ {c : ℕ} (h : ℕ) (e : c ≡ getD cs h 0) (third : 2 ≤ h) where
     number : h - 2 + 3 ≡ h + 1
     number = omega arith
 
     back : h + 1 - 1 ≡ h
     back = omega arith
 
-    times : h + 1 - 2 ≡ h - 1
-    times = omega arith
+    right-here : getD row c 0 ≡ rowSum (h + 1) → memberFaultAt p cs (everyRun row) r (h - 2 + 3) ≡ none
+    unfolding memberFaultAt everyRun
+    right-here q = rw (number, back, ← e, eq-eqb (getD row c 0) (rowSum (h + 1)) q)
 
-    right-here : getD row c 0 ≡ (getD row c1 0 + (h - 1) * getD row c2 0) % p → memberFaultAt p cs (everyRun row) r (h - 2 + 3) ≡ none
-    unfolding memberFaultAt memberSum everyRun
-    right-here q = rw (number, back, times, ← e1, ← e2, ← e, eq-eqb (getD row c 0) ((getD row c1 0 + (h - 1) * getD row c2 0) % p) q)
-
-    wrong-here : (getD row c 0 ≡ (getD row c1 0 + (h - 1) * getD row c2 0) % p → ⊥)
+    wrong-here : (getD row c 0 ≡ rowSum (h + 1) → ⊥)
         → memberFaultAt p cs (everyRun row) r (h - 2 + 3) ≡ some (record { run = r; member-number = h + 1 })
-    unfolding memberFaultAt memberSum everyRun
-    wrong-here q = rw (number, back, times, ← e1, ← e2, ← e, ne-eqb (getD row c 0) ((getD row c1 0 + (h - 1) * getD row c2 0) % p) q)
+    unfolding memberFaultAt everyRun
+    wrong-here q = rw (number, back, ← e, ne-eqb (getD row c 0) (rowSum (h + 1)) q)
 
     -- one more is right
-    pub right-next : RightBefore h → getD row c 0 ≡ (getD row c1 0 + (h - 1) * getD row c2 0) % p → RightBefore (h + 1)
+    pub right-next : RightBefore h → getD row c 0 ≡ rowSum (h + 1) → RightBefore (h + 1)
     unfolding RightBefore
     right-next right q =
         let more : h + 1 - 2 ≡ h - 2 + 1 = omega arith in
         rw more (below-more _ (h - 2) right (right-here q))
 
     -- the first that is wrong is found
-    pub wrong-found : h < p + 1 → RightBefore h → (getD row c 0 ≡ (getD row c1 0 + (h - 1) * getD row c2 0) % p → ⊥)
-        → At r (h + 1) ≡ asFault (runFault p cs (everyRun row) r)
+    pub wrong-found : h < p + 1 → RightBefore h → (getD row c 0 ≡ rowSum (h + 1) → ⊥) → At r (h + 1) ≡ asFault (runFault p cs (everyRun row) r)
     unfolding RightBefore runFault
     wrong-found l right q = sym (ap asFault (first-at _ (p - 1) (h - 2) _ (omega arith) right (wrong-here q)))
 
@@ -72,12 +91,10 @@ pub member-in : (numbers row : List ℕ) → AllBelow (length row) (membersOf nu
 unfolding AllBelow
 member-in numbers row below h l e = rw e (below h (rw (length-map numbers (λ x. x - 1)) l))
 
--- a member's sum fits a machine word: both levels are bytes, and h is at most 8
-pub sum-fits : (h x y : ℕ) → h ≤ 8 → x < 256 → y < 256 → x + (h - 1) * y < 4096
-sum-fits h x y hh hx hy =
-    let few : h - 1 ≤ 8 = omega arith in
-    let byte : y ≤ 256 = omega arith in
-    omega (arith, mul-le-mul few byte)
+-- and its level there is below p
+pub level-in : (p : ℕ) (numbers row : List ℕ) → LevelsBelow p (membersOf numbers) row → (h : ℕ) → h < length numbers → {c : ℕ} → c ≡ getD (membersOf numbers) h 0 → getD row c 0 < p
+unfolding LevelsBelow
+level-in p numbers row below h l e = rw e (below h (rw (length-map numbers (λ x. x - 1)) l))
 
 -- ---- run by run
 
@@ -129,6 +146,12 @@ module _ {p : ℕ} {numbers table levels : List ℕ} {runs : ℕ} (fit : Fitting
 
     member-cell : (k : ℕ) → k < p + 1 → getD row (getD members k 0) 0 ≡ getD table (r * length levels + getD members k 0) 0
     member-cell k l = row-cell fit r start h e (getD members k 0) (member-column fit k l)
+
+    pub levels-in-row : LevelsBelow p members row
+    unfolding LevelsBelow
+    levels-in-row k l =
+        let among : k < p + 1 = rw (fit .fits .many) at l in
+        rw (member-cell k among) (member-level fit k r among h)
 
     -- the fault of a run in its own bytes is that of the run on the sheet
     row-fault : runFault p members (everyRun row) r ≡ runFault p members sheet r

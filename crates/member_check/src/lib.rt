@@ -5,7 +5,8 @@ ghost use Rattle.finite.specs.Lists.{AllBelow};
 ghost use Rattle.counting.specs.Table.{tableOf};
 ghost use Rattle.step_tables.specs.Merge.{memberFault};
 ghost use Rattle.merge_questions.specs.Questions.{membersOf, Named, Fitting};
-ghost use Rattle.member_check.specs.MemberCheck.{everyRun, runFault, asFault};
+ghost use Rattle.member_check.specs.MemberCheck.{LevelsBelow, everyRun, runFault, asFault};
+use group_sums::modulo_sum;
 use merge_questions::column_of;
 
 // A member that is not its sum: the run, from 0, and the member's number, from 1.
@@ -37,20 +38,24 @@ pub fn wrong_member(members: &[u16], p: usize, table: &[u8], levels: &[u8], runs
     Fault::Nowhere
 }
 
-// The lowest member of one run that is not its sum: the member at h, from 0, is c1 + (h - 1) × c2 modulo p.
+// The lowest member of one run that is not its sum. The member at h, from 0, is c1 + (h - 1) × c2 modulo p, so each sum is the one before plus c2, and
+// stays below p without a division.
 fn wrong_in_run(members: &[u16], p: usize, row: &[u8], run: usize) -> Fault
     requires { ⌜ Named p (now members) ⌝ }
     requires { ⌜ AllBelow (length (now row)) (membersOf (now members)) ⌝ }
+    requires { ⌜ LevelsBelow p (membersOf (now members)) (now row) ⌝ }
     ensures { λ r. ⌜ r ≡ asFault (runFault p (membersOf (now (members .entry))) (everyRun (now (row .entry))) run) ⌝ }
 {
+    let modulus = p as u8;
     let c1 = column_of(members, 0);
     let c2 = column_of(members, 1);
-    let first = row[c1] as usize;
-    let second = row[c2] as usize;
+    let mut sum = row[c1];
+    let second = row[c2] as u16;
     let mut h = 2;
     while h < members.len() {
         let column = column_of(members, h);
-        if row[column] as usize != (first + (h - 1) * second) % p {
+        sum = modulo_sum(modulus, sum, second);
+        if row[column] != sum {
             return Fault::At { run, member: h + 1 };
         }
         h += 1;

@@ -7,7 +7,7 @@ use native.Mathlib.Omega.{arith}
 use lib.ListN.{length, getD, take, drop, length-drop}
 use lib.Seq.{length-take-le, getD-take, getD-drop}
 use Rattle.finite.proofs.Fits.{run-end}
-use Rattle.counting.specs.Table.{tableOf}
+use Rattle.counting.specs.Table.{InRange, tableOf}
 use Rattle.step_tables.proofs.Lists.{mem-getD}
 use Rattle.merge_questions.specs.Questions.{membersOf, Fitting}
 
@@ -31,6 +31,13 @@ module _ {p : ℕ} {numbers table levels : List ℕ} {runs : ℕ} (fit : Fitting
   pub member-column : (k : ℕ) → k < p + 1 → getD members k 0 < length levels
   unfolding tableOf
   member-column k h = fit .fits .on-sheet (getD members k 0) (mem-getD members k 0 (rw (fit .fits .many) h))
+
+  -- a member's level in a run is below p
+  pub member-level : (k r : ℕ) → k < p + 1 → r < runs → getD table (r * length levels + getD members k 0) 0 < p
+  unfolding InRange tableOf
+  member-level k r h l =
+      rw (fit .fits .levels (getD members k 0) (mem-getD members k 0 (rw (fit .fits .many) h))) at
+      (fit .in-range r (getD members k 0) l (member-column k h))
 
   -- run r, which lies from place start on
   module _ (r start : ℕ) (h : r < runs) (e : start ≡ r * length levels) where

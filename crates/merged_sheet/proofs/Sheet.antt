@@ -12,16 +12,15 @@ use Rattle.finite.specs.Lists.{from}
 use Rattle.finite.proofs.Fits.{run-more}
 use Rattle.buffers.specs.Put.{Put}
 use Rattle.buffers.proofs.Puts.{put-none}
-use Rattle.counting.specs.Table.{Table, columns, tableOf, InRange}
+use Rattle.counting.specs.Table.{Table, columns, tableOf}
 use Rattle.step_tables.specs.Merge.{mergeSources, mergeLevels, mergedLevel, mergeValue, mergeStep}
-use Rattle.step_tables.proofs.Lists.{mem-getD}
 use Rattle.step_tables.proofs.Merge.{merge-columns}
 use Rattle.layout.specs.Bytes.{runOf, runsOf}
 use Rattle.merge_questions.specs.Questions.{membersOf, Fitting, HasRoles}
 use Rattle.merged_rows.specs.MergedRow.{mergedRow}
 use Rattle.layout.proofs.Bytes.{run-sources, run-length}
 use Rattle.layout.proofs.Rows.{pieces-next}
-use Rattle.merge_questions.proofs.Runs.{partOf, member-column, row-length, row-cell}
+use Rattle.merge_questions.proofs.Runs.{partOf, member-column, member-level, row-length, row-cell}
 use Rattle.merged_rows.proofs.Rows.{row-of-sources}
 
 -- ---- the runs of a table, put one after the other
@@ -57,13 +56,6 @@ module _ {p : ℕ} {numbers table levels : List ℕ} {runs : ℕ} (fit : Fitting
   abbrev next : Table
   next = mergeStep p members sheet
 
-  -- a member's level in a run is below p
-  pub member-level : (k r : ℕ) → k < p + 1 → r < runs → getD table (r * length levels + getD members k 0) 0 < p
-  unfolding InRange tableOf
-  member-level k r h l =
-      rw (fit .fits .levels (getD members k 0) (mem-getD members k 0 (rw (fit .fits .many) h))) at
-      (fit .in-range r (getD members k 0) l (member-column fit k h))
-
   -- run r, which lies from place start on
   module _ (r start : ℕ) (h : r < runs) (e : start ≡ r * length levels) where
     abbrev row : List ℕ
@@ -78,10 +70,10 @@ module _ {p : ℕ} {numbers table levels : List ℕ} {runs : ℕ} (fit : Fitting
       below2 = rw e2 (member-column fit 1 (omega (arith, fit .named .least)))
 
       level1 : getD row c1 0 < p
-      level1 = rw (row-cell fit r start h e c1 below1, e1) (member-level 0 r (omega arith) h)
+      level1 = rw (row-cell fit r start h e c1 below1, e1) (member-level fit 0 r (omega arith) h)
 
       level2 : getD row c2 0 < p
-      level2 = rw (row-cell fit r start h e c2 below2, e2) (member-level 1 r (omega (arith, fit .named .least)) h)
+      level2 = rw (row-cell fit r start h e c2 below2, e2) (member-level fit 1 r (omega (arith, fit .named .least)) h)
 
       -- the merged level is below p × p, at most 49
       pub merged-byte : p * getD row c1 0 + getD row c2 0 < 256

@@ -9,7 +9,7 @@ use Rattle.finite.proofs.Fits.{run-more}
 use Rattle.counting.specs.Table.{tableOf}
 use Rattle.merge_questions.specs.Questions.{membersOf}
 use Rattle.merge_questions.proofs.Runs.{row-end}
-use Rattle.member_check.proofs.Members.{members-in-row, RightRuns, runs-right-none, runs-right-next, runs-wrong, runs-right}
+use Rattle.member_check.proofs.Members.{members-in-row, levels-in-row, RightRuns, runs-right-none, runs-right-next, runs-wrong, runs-right}
 use Rattle.member_check.proofs.wrong_member.Statement.{statement}
 use Rattle.member_check.proofs.wrong_member.Tie as tie
 
@@ -43,7 +43,9 @@ part-wrong-in-run-end c = omega (arith, row-in c)
 wrong-in-run-requires : tie.Need-wrong-in-run-requires Inv-loop μ-loop
 wrong-in-run-requires c κs =
     let fit = c .before .before .before .before .before .before .pre in
-    (fit .named, members-in-row fit (c .before .before .loop .run) _ (c .before .loop-test .taken) (c .before .before .loop .inv .1))
+    let l = c .before .before .loop in
+    let taken = c .before .loop-test .taken in
+    (fit .named, (members-in-row fit (l .run) _ taken (l .inv .1), levels-in-row fit (l .run) _ taken (l .inv .1)))
 
 enum-known-fault : tie.Need-enum-known-fault Inv-loop μ-loop
 enum-known-fault c = search needs
