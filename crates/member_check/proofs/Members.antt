@@ -4,18 +4,19 @@ use mathlib.Core.Path.{_≡_, refl, sym, _∙_, ap}
 use mathlib.Core.List.{List}
 use mathlib.Core.Option.{Option, none, some}
 use Prim.Native.Nat.{ℕ, _+_, _-_, _*_, _%_, _≤_, _<_}
-use native.Mathlib.Nat.{add-assoc, add-zero, zero-mul, mod-lt, mod-eq-of-lt, mod-add-mod}
+use native.Mathlib.Nat.{le-antisymm, add-assoc, add-zero, zero-mul, mod-lt, mod-eq-of-lt, mod-add-mod}
 use native.Mathlib.Omega.{arith}
 use borrow.Author.Count.{below-more}
 use borrow.Author.Tests.{eq-eqb, ne-eqb}
 use lib.ListN.{length, getD, length-map}
 use Rattle.finite.specs.Lists.{AllBelow}
-use Rattle.finite.proofs.Firsts.{first-none, first-at, first-ext}
+use Rattle.finite.proofs.Firsts.{first-none, first-at, first-ext, found-least}
 use Rattle.finite.proofs.Fits.{run-more}
 use Rattle.counting.specs.Table.{Table, tableOf}
 use Rattle.step_tables.specs.Merge.{memberAt, memberSum, MemberFault, memberFaultAt, memberFault}
+use Rattle.step_tables.proofs.StepQuestions.{fault-at}
 use Rattle.merge_questions.specs.Questions.{membersOf, Fitting}
-use Rattle.member_check.specs.MemberCheck.{LevelsBelow, everyRun, runFault, asFault}
+use Rattle.member_check.specs.MemberCheck.{LevelsBelow, everyRun, runFault, asFault, asVerdict, memberVerdict}
 use Rattle.member_check.specs.declared.Fault.the-variants.{Nowhere, At}
 use Rattle.merge_questions.proofs.Runs.{partOf, member-column, member-level, row-length, row-cell}
 
@@ -120,6 +121,13 @@ pub nowhere-found : (o : Option MemberFault) → Nowhere ≡ asFault o → o ≡
 nowhere-found none e = refl
 nowhere-found (some f) e = absurd (nowhere-not-at _ _ (sym e))
 
+-- a fault that is found in run r names r
+run-named : (p : ℕ) (cs : List ℕ) (S : Table) (r : ℕ) (f : MemberFault) → runFault p cs S r ≡ some f → r ≡ f .run
+unfolding runFault
+run-named p cs S r f e =
+    let least = found-least (λ k. memberFaultAt p cs S r (k + 3)) (p - 1) f e in
+    ap (λ (x : MemberFault). x .run) (fault-at p cs S r (least .place + 3) f (least .there) .0)
+
 -- every member is right in the runs before n
 unfoldable pub RightRuns : ℕ → List ℕ → Table → ℕ → Type 0
 RightRuns p cs S n = (i : ℕ) → i < n → runFault p cs S i ≡ none
@@ -165,11 +173,18 @@ module _ {p : ℕ} {numbers table levels : List ℕ} {runs : ℕ} (fit : Fitting
     unfolding RightRuns
     runs-right-next right found = below-more _ r right (sym row-fault ∙ nowhere-found _ found)
 
+    -- run r is the first wrong one, and with it r + 1 runs were needed
     pub runs-wrong : RightRuns p members sheet r → {run number : ℕ} → At run number ≡ asFault (runFault p members (everyRun row) r)
-        → At run number ≡ asFault (memberFault p members sheet)
-    unfolding RightRuns runFault memberFault tableOf
-    runs-wrong right found = sym (ap asFault (first-at _ runs r _ h right (sym row-fault ∙ at-found _ _ _ found)))
+        → record { fault = At run number; needed = r + 1 } ≡ memberVerdict p members sheet
+    unfolding RightRuns runFault memberFault memberVerdict tableOf
+    runs-wrong right {run} {number} found =
+        let there = sym row-fault ∙ at-found _ run number found in
+        ap (λ (n : ℕ). record { fault = At run number; needed = n + 1 }) (run-named p members sheet r _ there)
+        ∙ sym (ap (asVerdict sheet) (first-at _ runs r _ h right there))
 
-  pub runs-right : (n : ℕ) → runs ≤ n → RightRuns p members sheet n → Nowhere ≡ asFault (memberFault p members sheet)
-  unfolding RightRuns runFault memberFault tableOf
-  runs-right n l right = sym (ap asFault (first-none _ runs (λ i h. right i (omega arith))))
+  -- no run is wrong, and all were needed
+  pub runs-right : (n : ℕ) → n ≤ runs → runs ≤ n → RightRuns p members sheet n → record { fault = Nowhere; needed = n } ≡ memberVerdict p members sheet
+  unfolding RightRuns runFault memberFault memberVerdict tableOf
+  runs-right n most least right =
+      ap (λ (k : ℕ). record { fault = Nowhere; needed = k }) (le-antisymm most least)
+      ∙ sym (ap (asVerdict sheet) (first-none _ runs (λ i h. right i (omega arith))))

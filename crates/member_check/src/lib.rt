@@ -3,9 +3,8 @@ ghost use mathlib.Core.Path.{_≡_};
 ghost use lib.ListN.{length};
 ghost use Rattle.finite.specs.Lists.{AllBelow};
 ghost use Rattle.counting.specs.Table.{tableOf};
-ghost use Rattle.step_tables.specs.Merge.{memberFault};
 ghost use Rattle.merge_questions.specs.Questions.{membersOf, Named, Fitting};
-ghost use Rattle.member_check.specs.MemberCheck.{LevelsBelow, everyRun, runFault, asFault};
+ghost use Rattle.member_check.specs.MemberCheck.{LevelsBelow, everyRun, runFault, asFault, memberVerdict, RunsNeeded};
 use group_sums::modulo_sum;
 use merge_questions::column_of;
 
@@ -15,10 +14,23 @@ pub enum Fault {
     At { run: usize, member: usize },
 }
 
-// Question 7: the lowest run with a member that is not its sum, and the lowest member in it.
-pub fn wrong_member(members: &[u16], p: usize, table: &[u8], levels: &[u8], runs: usize) -> Fault
+// What the check of the members comes to: the first fault, and how many runs it needed (02, K4).
+pub struct MemberVerdict {
+    pub fault: Fault,
+    pub needed: usize,
+}
+
+// Question 7: the lowest run with a member that is not its sum, and the lowest member in it. No run after it is looked at.
+pub fn check_members(
+    members: &[u16],
+    p: usize,
+    table: &[u8],
+    levels: &[u8],
+    runs: usize,
+) -> MemberVerdict
     requires { ⌜ Fitting p (now members) (now table) (now levels) runs ⌝ }
-    ensures { λ r. ⌜ r ≡ asFault (memberFault p (membersOf (now (members .entry))) (tableOf (now (table .entry)) (now (levels .entry)) runs)) ⌝ }
+    ensures { λ r. ⌜ r ≡ memberVerdict p (membersOf (now (members .entry))) (tableOf (now (table .entry)) (now (levels .entry)) runs) ⌝ }
+    ensures { λ r. ⌜ RunsNeeded p (membersOf (now (members .entry))) (tableOf (now (table .entry)) (now (levels .entry)) runs) (r .needed) ⌝ }
 {
     let columns = levels.len();
     let mut start = 0;
@@ -28,14 +40,20 @@ pub fn wrong_member(members: &[u16], p: usize, table: &[u8], levels: &[u8], runs
         let fault = wrong_in_run(members, p, &table[start..end], run);
         match fault {
             Fault::At { run: there, member } => {
-                return Fault::At { run: there, member };
+                return MemberVerdict {
+                    fault: Fault::At { run: there, member },
+                    needed: run + 1,
+                };
             }
             Fault::Nowhere => {}
         }
         start = end;
         run += 1;
     }
-    Fault::Nowhere
+    MemberVerdict {
+        fault: Fault::Nowhere,
+        needed: run,
+    }
 }
 
 // The lowest member of one run that is not its sum. The member at h, from 0, is c1 + (h - 1) × c2 modulo p, so each sum is the one before plus c2, and

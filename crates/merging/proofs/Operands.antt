@@ -23,9 +23,11 @@ use Rattle.step_tables.proofs.StepQuestions.{size-decides, merge-decides}
 use Rattle.layout.specs.Bytes.{zeros, sheetIn}
 use Rattle.layout.specs.Step.{Readable, Stands, Ready, laterIn, Left}
 use Rattle.merge_questions.specs.Questions.{membersOf, Named, Fitting, roleOf, HasRoles}
-use Rattle.member_check.specs.MemberCheck.{asFault}
+use Rattle.member_check.specs.MemberCheck.{memberVerdict}
 use Rattle.layout.specs.declared.Size.{Size}
+use Rattle.member_check.specs.declared.Fault.{Fault}
 use Rattle.member_check.specs.declared.Fault.the-variants.{Nowhere, At}
+use Rattle.member_check.specs.declared.MemberVerdict.{MemberVerdict}
 use Rattle.layout.proofs.Sheets.{ready-few, ready-used}
 use Rattle.layout.proofs.Operands.{later-in, operands-stand}
 use Rattle.member_check.proofs.Members.{at-found, nowhere-found}
@@ -102,9 +104,9 @@ module _ (n p : ℕ) (cs : List ℕ) (table levels : List ℕ) (size : Size) whe
     unfolding operate fits applied wrongMember sheetIn mergeFits tableOf
     fitting = ap (λ b. cond b (afterSums n (mergeStep p cs sheet) (memberFault p cs sheet)) (refused (PartsDoNotFit n))) (sym e)
 
-    pub not-the-sum : {run member : ℕ} → At run member ≡ asFault (memberFault p cs (tableOf table counted (size .runs)))
+    pub not-the-sum : {run member : ℕ} → At run member ≡ memberVerdict p cs (tableOf table counted (size .runs)) .fault
         → operate n sheet (merge p cs) ≡ refused (NotTheSum n run member)
-    unfolding afterSums sheetIn
+    unfolding afterSums sheetIn memberVerdict
     not-the-sum {run} {member} found = fitting ∙ ap (afterSums n (mergeStep p cs sheet)) (at-found (memberFault p cs sheet) run member found)
 
     -- p columns go, and no run comes
@@ -115,9 +117,9 @@ module _ (n p : ℕ) (cs : List ℕ) (table levels : List ℕ) (size : Size) whe
         (size-decides (mergeStep p cs sheet) .1
         (record { runs-most = small .runs-most; columns-most = omega (arith, merge-columns p cs sheet members-fit, small .columns-most) }))
 
-    pub all-sums : SmallEnough sheet → Nowhere ≡ asFault (memberFault p cs (tableOf table counted (size .runs)))
+    pub all-sums : SmallEnough sheet → Nowhere ≡ memberVerdict p cs (tableOf table counted (size .runs)) .fault
         → operate n sheet (merge p cs) ≡ filled (mergeStep p cs sheet)
-    unfolding afterSums sized sheetIn
+    unfolding afterSums sized sheetIn memberVerdict
     all-sums small found =
         fitting
         ∙ ap (afterSums n (mergeStep p cs sheet)) (nowhere-found (memberFault p cs sheet) found)
@@ -152,14 +154,19 @@ module _ {list : List ℕ} {at : ℕ} {size : Size} {table levels scratch : List
           whole = rw (length-take-le (size .columns) levels (ready-few ready)) (ready-used ready);
         }
 
-    pub merge-wrong : (n : ℕ) {run number : ℕ} → At run number ≡ asFault (memberFault p cs (tableOf table (take (size .columns) levels) (size .runs)))
-        → Left (laterIn list n (sheetIn table levels size) 4 at) table levels (Refused (NotTheSum n run number)) table levels
-    unfolding Left
-    merge-wrong n found =
-        rw (merge-in (ready .readable) stands n (sheetIn table levels size), not-the-sum n p cs table levels size e found) (refl, refl, refl)
+    -- the verdict on the members
+    module _ {verdict : MemberVerdict} (is : verdict ≡ memberVerdict p cs (tableOf table (take (size .columns) levels) (size .runs))) (n : ℕ) where
+      fault-is : {fault : Fault} → verdict .fault ≡ fault → fault ≡ memberVerdict p cs (tableOf table (take (size .columns) levels) (size .runs)) .fault
+      fault-is there = sym there ∙ ap (λ (v : MemberVerdict). v .fault) is
 
-    pub merge-done : (n : ℕ) → Nowhere ≡ asFault (memberFault p cs (tableOf table (take (size .columns) levels) (size .runs)))
-        → (answer : Answer) (table′ levels′ : List ℕ) → Left (filled (mergeStep p cs (sheetIn table levels size))) table levels answer table′ levels′
-        → Left (laterIn list n (sheetIn table levels size) 4 at) table levels answer table′ levels′
-    merge-done n found answer table′ levels′ left =
-        rw (merge-in (ready .readable) stands n (sheetIn table levels size), all-sums n p cs table levels size e (ready .small) found) left
+      pub merge-wrong : {run number : ℕ} → verdict .fault ≡ At run number
+          → Left (laterIn list n (sheetIn table levels size) 4 at) table levels (Refused (NotTheSum n run number)) table levels
+      unfolding Left
+      merge-wrong there =
+          rw (merge-in (ready .readable) stands n (sheetIn table levels size), not-the-sum n p cs table levels size e (fault-is there)) (refl, refl, refl)
+
+      pub merge-done : verdict .fault ≡ Nowhere → (answer : Answer) (table′ levels′ : List ℕ)
+          → Left (filled (mergeStep p cs (sheetIn table levels size))) table levels answer table′ levels′
+          → Left (laterIn list n (sheetIn table levels size) 4 at) table levels answer table′ levels′
+      merge-done there answer table′ levels′ left =
+          rw (merge-in (ready .readable) stands n (sheetIn table levels size), all-sums n p cs table levels size e (ready .small) (fault-is there)) left

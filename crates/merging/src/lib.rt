@@ -1,7 +1,7 @@
 // Step 4, MERGE p, c1 .. c(p+1): the members, p + 1 columns of p levels, become one column of p × p levels. The list names columns from 1.
 use layout::Size;
 use member_check::Fault;
-use member_check::wrong_member;
+use member_check::check_members;
 use merge_questions::assign_roles;
 use merged_sheet::merge_sheet;
 use sheets::answer::Answer;
@@ -34,7 +34,8 @@ pub fn merge(
     if !assign_roles(members, p, &levels[..columns], &mut roles) {
         return Answer::Refused(Refusal::PartsDoNotFit { step: number });
     }
-    let fault = wrong_member(members, p, table, &levels[..columns], runs);
+    let verdict = check_members(members, p, table, &levels[..columns], runs);
+    let fault = verdict.fault;
     match fault {
         Fault::At { run, member } => Answer::Refused(Refusal::NotTheSum {
             step: number,

@@ -98,7 +98,8 @@ module _ (p : ℕ) (cs : List ℕ) (S : Table) where
   unfolding memberFaultAt
   none-at r h e = rw (eq-eqb (S .cell r (memberAt cs h)) (memberSum p cs S r h) e)
 
-  fault-at : (r h : ℕ) (f : MemberFault) → memberFaultAt p cs S r h ≡ some f
+  -- a failure that is found is at that run and member, and is one
+  pub fault-at : (r h : ℕ) (f : MemberFault) → memberFaultAt p cs S r h ≡ some f
       → (record { run = r; member-number = h } ≡ f) × (S .cell r (memberAt cs h) ≢ memberSum p cs S r h)
   unfolding memberFaultAt
   fault-at r h f e =

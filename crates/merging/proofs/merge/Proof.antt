@@ -62,14 +62,14 @@ returns c =
     let start = c .before .before .before .before .before .before .before .before .before .before .before in
     (merge-refused (start .pre .0) (start .pre .1) _ (sym (not-true _ (c .if1 .taken)) ∙ c .before .before .assign-roles .ensures .0), start .pre .1 .scratch-clear)
 
-slice-reshare-prefix-wrong-member : tie.Need-slice-reshare-prefix-wrong-member
-slice-reshare-prefix-wrong-member c = search needs
+slice-reshare-prefix-check-members : tie.Need-slice-reshare-prefix-check-members
+slice-reshare-prefix-check-members c = search needs
 
-slice-aggregate-wrong-member : tie.Need-slice-aggregate-wrong-member
-slice-aggregate-wrong-member c = sym (length-take-le _ _ (ready-few (c .before .before .before .before .before .before .before .before .before .before .before .before .before .pre .1)))
+slice-aggregate-check-members : tie.Need-slice-aggregate-check-members
+slice-aggregate-check-members c = sym (length-take-le _ _ (ready-few (c .before .before .before .before .before .before .before .before .before .before .before .before .before .pre .1)))
 
-wrong-member-requires : tie.Need-wrong-member-requires
-wrong-member-requires c κs =
+check-members-requires : tie.Need-check-members-requires
+check-members-requires c κs =
     let start = c .before .before .before .before .before .before .before .before .before .before .before .before .before in
     merge-fitting (start .pre .0) (start .pre .1) (sym (not-false _ (c .before .before .if1 .left)) ∙ c .before .before .before .before .assign-roles .ensures .0)
 
@@ -104,8 +104,8 @@ same-length-3 c = search needs
 returns-2 : tie.Need-returns-2
 returns-2 c =
     let start = c .before .before .before .before .before .before .before .before .before .before .before .before .before .before .before .before .before in (
-      merge-wrong (start .pre .0) (start .pre .1) (sym (not-false _ (c .before .before .before .before .before .before .if1 .left)) ∙ c .before .before .before .before .before .before .before .before .assign-roles .ensures .0) _
-          (sym (c .before .fault .given .1) ∙ c .before .before .before .wrong-member .ensures),
+      merge-wrong (start .pre .0) (start .pre .1) (sym (not-false _ (c .before .before .before .before .before .before .if1 .left)) ∙ c .before .before .before .before .before .before .before .before .assign-roles .ensures .0)
+          (c .before .before .before .check-members .ensures .0) _ (c .before .fault .given .1),
       start .pre .1 .scratch-clear,
     )
 
@@ -122,8 +122,8 @@ returns-3 : tie.Need-returns-3
 returns-3 c =
     let start = c .before .before .before .before .before .before .before .before .before .before .before .before .before .before .before .before .before .before .before .before .before .before .before .before .before .before .before in
     let built = c .before .before .before .before .before .before .merge-sheet .ensures in (
-      merge-done (start .pre .0) (start .pre .1) (sym (not-false _ (c .before .before .before .before .before .before .before .before .before .before .before .before .before .before .before .before .if1 .left)) ∙ c .before .before .before .before .before .before .before .before .before .before .before .before .before .before .before .before .before .before .assign-roles .ensures .0) _
-          (sym (c .before .before .before .before .before .before .before .before .before .before .before .enum-told .given .1) ∙ c .before .before .before .before .before .before .before .before .before .before .before .before .before .wrong-member .ensures) _ _ _ (built .0),
+      merge-done (start .pre .0) (start .pre .1) (sym (not-false _ (c .before .before .before .before .before .before .before .before .before .before .before .before .before .before .before .before .if1 .left)) ∙ c .before .before .before .before .before .before .before .before .before .before .before .before .before .before .before .before .before .before .assign-roles .ensures .0)
+          (c .before .before .before .before .before .before .before .before .before .before .before .before .before .check-members .ensures .0) _ (c .before .before .before .before .before .before .before .before .before .before .before .enum-told .given .1) _ _ _ (built .0),
       built .1,
     )
 
@@ -147,9 +147,9 @@ merge-spec =
     assign-roles-requires
     same-length
     returns
-    slice-reshare-prefix-wrong-member
-    slice-aggregate-wrong-member
-    wrong-member-requires
+    slice-reshare-prefix-check-members
+    slice-aggregate-check-members
+    check-members-requires
     enum-known-fault
     enum-told
     slice-aggregate-merge-sheet

@@ -1,4 +1,4 @@
--- `wrong_member` meets its contract. The invariant: in the runs before the one in hand every member is its sum.
+-- `check_members` meets its contract. The invariant: in the runs before the one in hand every member is its sum.
 use mathlib.Core.Path.{_≡_, sym, _∙_, ap}
 use Prim.Native.Nat.{_+_, _-_, _*_, _≤_}
 use native.Mathlib.Nat.{zero-mul}
@@ -10,8 +10,9 @@ use Rattle.counting.specs.Table.{tableOf}
 use Rattle.merge_questions.specs.Questions.{membersOf}
 use Rattle.merge_questions.proofs.Runs.{row-end}
 use Rattle.member_check.proofs.Members.{members-in-row, levels-in-row, RightRuns, runs-right-none, runs-right-next, runs-wrong, runs-right}
-use Rattle.member_check.proofs.wrong_member.Statement.{statement}
-use Rattle.member_check.proofs.wrong_member.Tie as tie
+use Rattle.member_check.proofs.Needed.{runs-needed}
+use Rattle.member_check.proofs.check_members.Statement.{statement}
+use Rattle.member_check.proofs.check_members.Tie as tie
 
 abbrev Inv-loop : tie.InvT-loop
 Inv-loop members p table levels runs columns start₀ run₀ start run =
@@ -50,12 +51,17 @@ wrong-in-run-requires c κs =
 enum-known-fault : tie.Need-enum-known-fault Inv-loop μ-loop
 enum-known-fault c = search needs
 
+add-t19 : tie.Need-add-t19 Inv-loop μ-loop
+add-t19 c = search needs
+
 returns : tie.Need-returns Inv-loop μ-loop
 returns c =
     let l = c .before .before .before .before .before .before .loop in
     let fit = c .before .before .before .before .before .before .before .before .before .before .pre in
-    runs-wrong fit (l .run) _ (c .before .before .before .before .before .loop-test .taken) (l .inv .1) (l .inv .2)
-    (sym (c .before .fault .given .1) ∙ c .before .before .before .wrong-in-run .ensures)
+    let taken = c .before .before .before .before .before .loop-test .taken in
+    let found = sym (c .before .fault .given .1) ∙ c .before .before .before .wrong-in-run .ensures in
+    let verdict = runs-wrong fit (l .run) _ taken (l .inv .1) (l .inv .2) found in
+    (verdict, runs-needed _ _ _ verdict)
 
 enum-told : tie.Need-enum-told Inv-loop μ-loop
 enum-told c = search needs
@@ -78,10 +84,13 @@ loop-again c =
     )
 
 returns-2 : tie.Need-returns-2 Inv-loop μ-loop
-returns-2 c = runs-right (c .before .before .before .before .before .pre) (c .before .loop .run) (c .loop-test .left) (c .before .loop .inv .2)
+returns-2 c =
+    let l = c .before .loop in
+    let verdict = runs-right (c .before .before .before .before .before .pre) (l .run) (l .inv .0) (c .loop-test .left) (l .inv .2) in
+    (verdict, runs-needed _ _ _ verdict)
 
-pub wrong-member-spec : {M : Type 1} → statement M
-wrong-member-spec =
+pub check-members-spec : {M : Type 1} → statement M
+check-members-spec =
     tie.close
     (tie.spec
     Inv-loop
@@ -93,6 +102,7 @@ wrong-member-spec =
     part-wrong-in-run-end
     wrong-in-run-requires
     enum-known-fault
+    add-t19
     returns
     enum-told
     add-run
