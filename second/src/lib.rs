@@ -1,4 +1,4 @@
-//! A second implementation of the planner of document 01 with requests K1 to K3 of document 02,
+//! A second implementation of the planner of document 01 with requests K1 to K4 of document 02,
 //! written from these documents alone and as plainly as possible, to be compared with the proved one.
 //! "01" and "02" in comments are those documents.
 //!
@@ -24,6 +24,7 @@ pub mod records;
 mod steps;
 mod text;
 
+pub use steps::{check_members, MemberCheck};
 pub use text::{print, scan};
 
 /// The lengths of run table, level list and scratch, in bytes.

@@ -184,14 +184,9 @@ fn merge(step_number: usize, sheet: &Table, p: usize, members: &[usize]) -> Resu
         }
     }
 
-    // Question 7. Member h stands at h - 1 in the list of members.
-    for (run_number, run) in sheet.runs.iter().enumerate() {
-        let entry = |h: usize| run[members[h - 1] - 1];
-        for h in 3..=p + 1 {
-            if entry(h) != (entry(1) + (h - 2) * entry(2)) % p {
-                return Err(refused(10, &[step_number, run_number, h]));
-            }
-        }
+    // Question 7.
+    if let Some((run, member)) = check_members(sheet, p, members).wrong {
+        return Err(refused(10, &[step_number, run, member]));
     }
 
     // Question 8. There are fewer columns than before, and no more runs.
@@ -211,6 +206,40 @@ fn merge(step_number: usize, sheet: &Table, p: usize, members: &[usize]) -> Resu
         }
     }
     Ok(Table { levels, runs })
+}
+
+/// What question 7 finds of a MERGE.
+#[derive(Clone, Copy, Debug, PartialEq, Eq)]
+pub struct MemberCheck {
+    /// The lowest run with a member that is not its sum, and the lowest such member in it.
+    pub wrong: Option<(usize, usize)>,
+    /// How many runs were looked at; 02, K4.
+    pub runs_needed: usize,
+}
+
+/// Question 7, of members that question 6 lets through: is each its sum in every run? The first run in
+/// which one is not ends the check, and the rest are not looked at.
+pub fn check_members(sheet: &Table, p: usize, members: &[usize]) -> MemberCheck {
+    let mut runs_needed = 0;
+    for (run_number, run) in sheet.runs.iter().enumerate() {
+        runs_needed += 1;
+        if let Some(member) = lowest_wrong_member(run, p, members) {
+            return MemberCheck {
+                wrong: Some((run_number, member)),
+                runs_needed,
+            };
+        }
+    }
+    MemberCheck {
+        wrong: None,
+        runs_needed,
+    }
+}
+
+/// Member h stands at h - 1 in the list of members.
+fn lowest_wrong_member(run: &[usize], p: usize, members: &[usize]) -> Option<usize> {
+    let entry = |h: usize| run[members[h - 1] - 1];
+    (3..=p + 1).find(|&h| entry(h) != (entry(1) + (h - 2) * entry(2)) % p)
 }
 
 fn split(step_number: usize, sheet: &Table, column: usize, table: &Table) -> Result<Table, Answer> {

@@ -243,6 +243,51 @@ fn examples_reach_every_refusal() {
     }
 }
 
+/// The orders are made of runs that are wrong in a way; the names say which, and the answers must too.
+#[test]
+fn merges_are_answered_as_their_names_say() {
+    let text = stored("examples");
+    let records = read(&text);
+    let answer = |name: String| {
+        let named = |record: &&Record| record.name == Some(&format!("members: {name}"));
+        records.iter().find(named).expect(&name).answer[0]
+    };
+    let refused_at = |run: usize, member: usize| format!("refused 10 2 {run} {member} 0 0 0");
+    for p in [2, 3, 5, 7] {
+        let (n, wrong, last) = (2 * p * p, 2 * p, p + 1);
+        assert_eq!(
+            answer(format!("p = {p}, wrong in none of {n} runs")),
+            format!("{n} 1 {}", n - p * p)
+        );
+        assert_eq!(
+            answer(format!("p = {p}, wrong in the first {wrong} of {n} runs")),
+            refused_at(0, last)
+        );
+        assert_eq!(
+            answer(format!("p = {p}, wrong in the last {wrong} of {n} runs")),
+            refused_at(n - wrong, last)
+        );
+    }
+    for (p, member, run) in [(3, 3, 9), (5, 4, 25), (7, 5, 49)] {
+        let last = p + 1;
+        assert_eq!(
+            answer(format!(
+                "p = {p}, members {member} and {last} wrong in run {run}"
+            )),
+            refused_at(run, member)
+        );
+    }
+    for (p, lower, higher) in [(3, 3, 9), (5, 15, 25), (7, 35, 49)] {
+        let last = p + 1;
+        assert_eq!(
+            answer(format!(
+                "p = {p}, member {last} wrong in run {lower}, member 3 in run {higher}"
+            )),
+            refused_at(lower, last)
+        );
+    }
+}
+
 #[test]
 fn vectors_reach_everything_often() {
     let text = stored("vectors");

@@ -1,13 +1,15 @@
 //! The examples of 01, each refusal, orders at both sides of each limit, the spare after each kind of
-//! step, and the sums and differences that go with each p. The orders alone are written here;
-//! `plan_text` gives the answers.
+//! step, the sums and differences that go with each p, and where the check of a MERGE ends. The orders
+//! alone are written here; `plan_text` gives the answers.
 
+mod members;
 mod short;
 
 use super::Records;
 use crate::field::product;
 use crate::text::spaced;
 use crate::{Lengths, LEAST};
+use members::members;
 use short::*;
 
 const ABOUT: &str =
@@ -30,6 +32,7 @@ pub fn examples() -> String {
     put(&mut records, "fields", FIELDS);
     put(&mut records, "fields", &products_and_sums());
     put(&mut records, "fields", &no_fields());
+    put(&mut records, "members", &members());
     put(&mut records, "words", WORDS);
     records.text
 }
