@@ -36,7 +36,7 @@ enum yurbantze_number {
     YURBANTZE_DEPENDENT = 7,          /* ingredient, first factor, second factor or 0, coefficients read base s, the first highest */
     YURBANTZE_STEP_NOT_ALLOWED = 8,   /* step */
     YURBANTZE_PARTS_DO_NOT_FIT = 9,   /* step */
-    YURBANTZE_NOT_THE_SUM = 10,       /* step, run, member */
+    YURBANTZE_NOT_THE_SUM = 10,       /* step, run, member; the check ended there, and needed run + 1 runs */
     YURBANTZE_TOO_LARGE = 11,         /* step, runs, columns */
     YURBANTZE_SHORT_PAGE = 12,        /* the page buffer is too short */
     YURBANTZE_NO_SUCH_PAGE = 13       /* page 0, or one past the last */

@@ -107,6 +107,7 @@ pub enum Refusal {
     Dependent { ingredient: usize, first: usize, second: usize, coefficients: usize },
     StepNotAllowed { step: usize },
     PartsDoNotFit { step: usize },
+    /// The check ended at that run, the first that is wrong, and needed `run` + 1 runs.
     NotTheSum { step: usize, run: usize, member: usize },
     TooLarge { step: usize, runs: usize, columns: usize },
 }
