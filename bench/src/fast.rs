@@ -3,14 +3,15 @@
 //! It asks every question of 01 within the same limits, and counts pair by pair with a flat array of
 //! counters, as the proved planner does. But it is written for those orders alone: generators over
 //! the field of two elements with factors of one column, SUM without a k and with one kind of sum for
-//! all columns, SPLIT by house table 101, no other house table, no refusal of a generator or a step.
-//! For an order that needs more the answer is None.
+//! all columns, SPLIT by house table 101, no other house table, no refusal of a generator, and of a
+//! step no other than 10. For an order that needs more the answer is None.
 //!
 //! `pages` is apart from that, and whole: any page of any sheet.
 
 mod build;
 pub mod common_bits;
 mod count;
+mod merge;
 mod nine;
 pub mod pages;
 mod read;

@@ -4,7 +4,7 @@
 #![forbid(unsafe_code)]
 
 use bench::fast;
-use bench::orders::{cases, least_order, table_order, Case};
+use bench::orders::{cases, least_order, merge_cases, table_order, Case, MergeCase};
 use bench::planners::{plain, proved, Buffers, Outcome};
 use bench::printers::{self, Printer};
 use bench::sheets::{page_cases, PageCase};
@@ -37,6 +37,12 @@ fn main() -> io::Result<()> {
     println!("proved planner / second implementation, and / fast safe Rust");
     for case in &cases {
         print_against_rust(case);
+    }
+    println!(
+        "\nproved planner / fast safe Rust, what a MERGE takes beyond one that is refused at run 0"
+    );
+    for case in merge_cases() {
+        print_merge_times(&case);
     }
     println!("\nproved page / second implementation, and / fast safe Rust");
     for case in page_cases() {
@@ -73,6 +79,22 @@ fn print_against_rust(case: &Case) {
     let times = times_of_planners(&planners, &case.lists);
     let ratios: Vec<f64> = times[1..].iter().map(|&t| ratio(times[0], t)).collect();
     print_line(&case.name, &ratios);
+}
+
+/// By the time of an order less that of the same order with a member wrong in run 0.
+fn print_merge_times(case: &MergeCase) {
+    let planners: [Planner; 2] = [proved, by_fast];
+    let lists = [&case.list, &case.wrong_at_once];
+    for list in lists {
+        assert_all_agree(&planners, list);
+    }
+    let mut buffers = Buffers::zeros(LEAST);
+    let times = least_times(CALLS, 4, |which| {
+        buffers.clear();
+        time_of(|| planners[which / 2](lists[which % 2], &mut buffers))
+    });
+    let (by_proved, by_fast) = (times[0] - times[1], times[2] - times[3]);
+    print_line(&case.name, &[ratio(by_proved, by_fast)]);
 }
 
 fn by_fast(list: &[u16], buffers: &mut Buffers) -> Outcome {

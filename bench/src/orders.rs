@@ -1,7 +1,10 @@
 //! The orders that are timed. Most are as large as the limits of 01 let them be.
 
+mod merges;
 mod over_fields;
 
+use crate::planners::{plain, Buffers};
+pub use merges::{merge_cases, MergeCase};
 use over_fields::Sequences;
 use second::maker::make;
 use second::{plan, Answer, LEAST};
@@ -32,11 +35,18 @@ impl Case {
         assert!(matches!(answer, Answer::Filled { .. }), "{name}");
         Case::of(name, list)
     }
+
+    fn merge(case: MergeCase) -> Case {
+        let numbers = |list: &[u16]| plain(list, &mut Buffers::zeros(LEAST)).numbers;
+        assert_eq!(numbers(&case.list), case.answer, "{}", case.name);
+        assert_eq!(numbers(&case.wrong_at_once)[..3], [10, 2, 0]);
+        Case::of(&case.name, case.list)
+    }
 }
 
 /// All cases, in the order in which they are printed.
 pub fn cases() -> Vec<Case> {
-    vec![
+    let mut cases = vec![
         Case::of("table of 512 runs and 63 columns", table_order(512, 63)),
         Case::of("table of 256 runs and 127 columns", table_order(256, 127)),
         Case::of("FIELD to 512 runs and 128 columns", field_order()),
@@ -53,8 +63,10 @@ pub fn cases() -> Vec<Case> {
         Case::of("refused: the last number", last_number_refused()),
         Case::of("refused: the last entry", last_entry_refused()),
         Case::of("refused: the last pair", last_pair_refused()),
-        small_orders(),
-    ]
+    ];
+    cases.extend(merge_cases().into_iter().map(Case::merge));
+    cases.push(small_orders());
+    cases
 }
 
 /// TAKE of a table of parities.

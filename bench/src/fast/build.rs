@@ -1,12 +1,12 @@
 //! The steps. Each later step builds its sheet in the buffer that is free, so that nothing is copied
-//! back until the end. A step that 01 refuses is not written.
+//! back until the end. Of the refusals of a step 10 alone is written.
 
+use super::merge::{first_wrong, modulo_p, Merging};
 use super::nine;
 use super::read::{Ingredient, Order, Shape, Step};
 use super::Stop;
 use crate::planners::{filled, Buffers, Outcome};
 use std::mem::swap;
-use std::ops::Range;
 
 const HOUSE_TABLE_101: [[u8; 3]; 4] = [[0, 0, 0], [0, 1, 1], [1, 0, 1], [1, 1, 0]];
 
@@ -35,10 +35,10 @@ pub fn carry_out(order: &Order, buffers: &mut Buffers) -> Result<Outcome, Stop> 
         Step::Field { generator } => sheet.field(ingredient(order, generator)?)?,
         _ => return Err(Stop::NotWritten),
     }
-    for step in later {
+    for (index, step) in later.iter().enumerate() {
         match *step {
             Step::Sum { matrices } => sheet.sum(order, matrices)?,
-            Step::Merge { members } => sheet.merge(members)?,
+            Step::Merge { members } => sheet.merge(index + 2, members)?,
             Step::Split { column, table: 101 } => sheet.split(column)?,
             _ => return Err(Stop::NotWritten),
         }
@@ -165,34 +165,27 @@ impl Sheet<'_> {
         }
     }
 
-    fn merge(&mut self, members: &[u16]) -> Result<(), Stop> {
+    fn merge(&mut self, step_number: usize, members: &[u16]) -> Result<(), Stop> {
         let members: Vec<usize> = members.iter().map(|&c| usize::from(c) - 1).collect();
-        let p = members.len() - 1;
-        let fits = |c: &usize| self.levels.get(*c).is_some_and(|&s| usize::from(s) == p);
-        let mut going = members[1..].to_vec();
-        going.sort_unstable();
-        going.dedup();
-        if !members.iter().all(fits) || going.len() < p || going.contains(&members[0]) {
+        let p = (members.len() - 1) as u8;
+        let mut sorted = members.clone();
+        sorted.sort_unstable();
+        sorted.dedup();
+        let fits = |c: &usize| self.levels.get(*c) == Some(&p);
+        if sorted.len() < members.len() || !members.iter().all(fits) {
             return Err(Stop::NotWritten);
         }
-        let staying = between(&going, self.levels.len());
-        let merged_place = members[0] - going.partition_point(|&c| c < members[0]);
-        let new_width = self.levels.len() - p;
-
-        let runs = self.cells.chunks_exact(self.levels.len()).take(self.runs);
-        for (run, new) in runs.zip(self.free.chunks_exact_mut(new_width)) {
-            let (first, second) = (usize::from(run[members[0]]), usize::from(run[members[1]]));
-            for (h, &member) in members.iter().enumerate().skip(2) {
-                if usize::from(run[member]) != (first + (h - 1) * second) % p {
-                    return Err(Stop::NotWritten);
-                }
-            }
-            copy_ranges(run, &staying, new);
-            new[merged_place] = (p * first + second) as u8;
+        let width = self.levels.len();
+        let cells = &self.cells[..self.runs * width];
+        if let Some((run, member)) = first_wrong(cells, width, &members) {
+            return Err(Stop::Refused([10, step_number, run, member, 0, 0, 0]));
         }
-        let mut levels = vec![0; new_width];
-        copy_ranges(&self.levels, &staying, &mut levels);
-        levels[merged_place] = (p * p) as u8;
+
+        let (first, second) = (members[0], members[1]);
+        let merging = Merging::of(first, &sorted, width);
+        merging.put(cells, |run| p * run[first] + run[second], self.free);
+        let mut levels = vec![0; width - usize::from(p)];
+        merging.put(&self.levels, |_| p * p, &mut levels);
         self.levels = levels;
         Ok(())
     }
@@ -217,35 +210,10 @@ impl Sheet<'_> {
     }
 }
 
-fn modulo_p(p: u8, cell: u8, entry: u8) -> u8 {
-    let total = cell + entry;
-    if total < p {
-        total
-    } else {
-        total - p
-    }
-}
-
 /// Question 8.
 fn within_limits(runs: usize, columns: usize) -> Result<(), Stop> {
     if runs > 512 || columns > 128 {
         return Err(Stop::NotWritten);
     }
     Ok(())
-}
-
-/// The ranges of the columns between those that go.
-fn between(going: &[usize], columns: usize) -> Vec<Range<usize>> {
-    let starts = [0].into_iter().chain(going.iter().map(|c| c + 1));
-    let ends = going.iter().copied().chain([columns]);
-    starts.zip(ends).map(|(start, end)| start..end).collect()
-}
-
-fn copy_ranges(row: &[u8], ranges: &[Range<usize>], new: &mut [u8]) {
-    let mut place = 0;
-    for range in ranges {
-        let part = &row[range.clone()];
-        new[place..place + part.len()].copy_from_slice(part);
-        place += part.len();
-    }
 }
