@@ -79,7 +79,7 @@ module _ (o : Order) (i : ℕ) {why : Refusal} where
         levels = levels;
         entries = entries;
         reached = reached;
-        first-fault = table-fails _ _ (ap (λ f. record { finding = f }) found);
+        first-fault = table-fails _ _ found;
       }))
   table-fault rows levels entries reached (Fails (Pair c d x y times)) found e =
       subst (Fault o) (Option·some-injective _ why e)
@@ -89,7 +89,7 @@ module _ (o : Order) (i : ℕ) {why : Refusal} where
         levels = levels;
         entries = entries;
         reached = reached;
-        first-fault = table-fails _ _ (ap (λ f. record { finding = f }) found);
+        first-fault = table-fails _ _ found;
       }))
 
   matrix-fault : (rows columns p : ℕ) (entries : List ℕ) → ReachesIngredient o i (matrix rows columns p entries) → (f : MatrixFinding)

@@ -20,7 +20,6 @@ use Rattle.counting.specs.Failures.{EvenLevel, EvenPair, EvenColumn, Eve
 use Rattle.counting.specs.declared.verdict.TableFault.{TableFault}
 use Rattle.counting.specs.declared.verdict.TableFault.the-variants.{Column, Pair}
 use Rattle.counting.specs.declared.verdict.TableFinding.the-variants.{Passes, Fails}
-use Rattle.counting.specs.declared.verdict.TableVerdict.{TableVerdict}
 use Rattle.counting.proofs.Deviations.{deviation-none, none-even, passes-none, fails-some, some-lowest}
 
 -- a level of a column, and levels of two columns
@@ -203,21 +202,21 @@ unfolding tableVerdict
 verdict-finding T = refl
 
 -- A table passes exactly when it is even at strength two.
-pub table-passes : (T : Table) → (tableVerdict T ≡ record { finding = Passes }) ↔ Even 2 T
+pub table-passes : (T : Table) → (tableVerdict T .finding ≡ Passes) ↔ Even 2 T
 table-passes T = (to, from)
   where
-    to : tableVerdict T ≡ record { finding = Passes } → Even 2 T
+    to : tableVerdict T .finding ≡ Passes → Even 2 T
     to e =
-        let n = orElse-none _ _ (passes-none _ (sym (verdict-finding T ∙ ap (λ (v : TableVerdict). v .finding) e))) in
+        let n = orElse-none _ _ (passes-none _ (sym (verdict-finding T ∙ e))) in
         checked-even T (none-checked T (n .0) (n .1))
 
-    from : Even 2 T → tableVerdict T ≡ record { finding = Passes }
+    from : Even 2 T → tableVerdict T .finding ≡ Passes
     from e =
         let k = even-checked T e in
-        sym (verdict-pairs T (checked-columns T k)) ∙ rw (checked-pairs T k)
+        sym (verdict-finding T) ∙ rw (checked-columns T k, checked-pairs T k)
 
 -- What a table's verdict names fails, and nothing before it does.
-pub table-fails : (T : Table) (fault : TableFault) → tableVerdict T ≡ record { finding = Fails fault } → FirstFault T fault
+pub table-fails : (T : Table) (fault : TableFault) → tableVerdict T .finding ≡ Fails fault → FirstFault T fault
 table-fails T fault e =
     ⊎-elim (first-level-fault T fault) (λ p. first-pair-fault T fault (p .0) (p .1))
-    (orElse-some _ _ fault (fails-some _ fault (sym (verdict-finding T ∙ ap (λ (v : TableVerdict). v .finding) e))))
+    (orElse-some _ _ fault (fails-some _ fault (sym (verdict-finding T ∙ e))))

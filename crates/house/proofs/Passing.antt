@@ -27,10 +27,10 @@ in-range A t r c hr hc = ltb→lt _ _ (all-every _ _ (all-every _ _ t r hr) c hc
 
 -- what is asked of a table: it passes, and its entries are in range
 pub record Passing (A : Table) : Type 0 where
-  pub verdict : tableVerdict A ≡ record { finding = Passes }
+  pub verdict : tableVerdict A .finding ≡ Passes
   pub in-range : InRange A
 
-passing : (A : Table) → tableVerdict A ≡ record { finding = Passes } → T (inRange A) → Passing A
+passing : (A : Table) → tableVerdict A .finding ≡ Passes → T (inRange A) → Passing A
 passing A v t = record { verdict = v; in-range = in-range A t }
 
 passing-101 : Passing house101

@@ -116,8 +116,8 @@ pub ingredient-decides : (i : ℕ) (g : Ingredient) → IngredientLimits g → (
 unfolding ingredientRefusal MeetsDefinition tableRefusal matrixRefusal generatorRefusal generatorOf
 ingredient-decides i (table rows levels entries) limits =
     let A = tableOf entries levels rows in (
-      λ e. table-passes A .0 (ap (λ f. record { finding = f }) (table-passed i _ e)),
-      λ m. ap (λ v. tableRefusal i (v .finding)) (table-passes A .1 m),
+      λ e. table-passes A .0 (table-passed i _ e),
+      λ m. ap (tableRefusal i) (table-passes A .1 m),
     )
 ingredient-decides i (matrix rows columns p entries) limits =
     let D = matrixOf entries rows columns p in
