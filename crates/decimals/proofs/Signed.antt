@@ -1,18 +1,15 @@
 -- Laws of `signedDigits`: the bytes by the sign of a number, as it is read from its bits and tested; and how many there are.
-use mathlib.Core.Path.{_≡_, refl, _∙_, ap}
+use mathlib.Core.Path.{_≡_}
 use mathlib.Core.Bool.{true, false}
 use mathlib.Core.List.{_∷_}
-use Prim.Native.Nat.{ℕ, suc, _+_, _^_, _≤_, _<_, suc-le-suc}
-use native.Mathlib.Numerals.{add-one}
+use Prim.Native.Nat.{ℕ, suc, _≤_, suc-le-suc}
 use native.Mathlib.Omega.{arith}
-use borrow.Author.Tests.{le-ltb, ltb-true}
-use lib.Dec.{T}
-use lib.IntN.{ℤ, pos, negsuc, natAbs, _-ℤ_}
+use lib.IntN.{ℤ, pos, negsuc, natAbs}
 use lib.ListN.{length}
-use lib.Signed.{mag, ltZ, nonNeg}
-use mir.Facts.{toZ-ofZ, toZ-pos}
+use lib.Signed.{ltZ}
 use mir.Syntax.{w64}
-use mir.Val.{Fits, SFits, toZ, ofZ}
+use mir.Val.{SFits, toZ, ofZ}
+use Rattle.integers.proofs.Signs.{size-read, is-negative, is-plain}
 use Rattle.decimals.specs.Decimals.{decimalDigits, signedDigits}
 use Rattle.decimals.proofs.Decimals.{decimal-length, decimal-word}
 
@@ -20,48 +17,16 @@ use Rattle.decimals.proofs.Decimals.{decimal-length, decimal-word}
 abbrev read : ℤ → ℤ
 read z = toZ w64 (ofZ w64 z)
 
--- Such a number can be cast to an unsigned one.
-pub casts : {y : ℤ} {n : ℕ} → y ≡ pos n → n < 2 ^ 63 → T (nonNeg y) × Fits w64 (natAbs y)
-casts e h = rw e (tt, omega arith)
+module _ {z : ℤ} (word : SFits w64 z) {size : ℕ} (size-is : size ≡ natAbs (read z)) where
+  -- A negative number has the digits of its size after its sign.
+  pub negative-digits : ltZ (read z) (pos 0) ≡ true → signedDigits z ≡ 45 ∷ decimalDigits size
+  unfolding signedDigits
+  negative-digits below = rw (size-read z word size-is, is-negative word below)
 
-negative : (z : ℤ) → ltZ z (pos 0) ≡ true → z ≡ negsuc (mag z)
-negative (pos n) below = absurd (omega (arith, ltb-true n 0 below))
-negative (negsuc n) below = refl
-
-not-negative : (z : ℤ) → ltZ z (pos 0) ≡ false → z ≡ pos (mag z)
-not-negative (pos n) above = refl
-not-negative (negsuc n) above = let never : _≡_ {A = ℕ} 0 1 = cc in absurd (omega arith)
-
-one-less : (n : ℕ) → negsuc 0 -ℤ negsuc n ≡ pos n
-one-less n = rw (le-ltb (suc n) 1 (omega arith)) (ap pos (omega arith))
-
-module _ {z : ℤ} (word : SFits w64 z) where
-  -- Of a negative number z, -1 - z is one less than the number whose digits stand after the sign.
-  module _ (below : ltZ (read z) (pos 0) ≡ true) where
-    is-negative : z ≡ negsuc (mag z)
-    is-negative = negative z (rw (toZ-ofZ word) at below)
-
-    pub less : negsuc 0 -ℤ read z ≡ pos (mag z)
-    less = rw (toZ-ofZ word, is-negative) (one-less (mag z))
-
-    pub less-read : read (negsuc 0 -ℤ read z) ≡ pos (mag z)
-    less-read = ap read less ∙ toZ-pos w64 (word .sfits)
-
-    pub negative-digits : signedDigits z ≡ 45 ∷ decimalDigits (natAbs (read (negsuc 0 -ℤ read z)) + 1)
-    unfolding signedDigits
-    negative-digits = rw (less-read, add-one) (ap signedDigits is-negative)
-
-  -- Any other number has its own digits.
-  module _ (above : ltZ (read z) (pos 0) ≡ false) where
-    is-plain : z ≡ pos (mag z)
-    is-plain = not-negative z (rw (toZ-ofZ word) at above)
-
-    pub plain-read : read z ≡ pos (mag z)
-    plain-read = toZ-ofZ word ∙ is-plain
-
-    pub plain-digits : signedDigits z ≡ decimalDigits (natAbs (read z))
-    unfolding signedDigits
-    plain-digits = rw plain-read (ap signedDigits is-plain)
+  -- Any other number has the digits of its size alone.
+  pub plain-digits : ltZ (read z) (pos 0) ≡ false → signedDigits z ≡ decimalDigits size
+  unfolding signedDigits
+  plain-digits above = rw (size-read z word size-is, is-plain word above)
 
 -- A word of 64 bits has at most 19 digits and a sign.
 pub signed-word : (z : ℤ) → SFits w64 z → length (signedDigits z) ≤ 20

@@ -4,6 +4,7 @@ ghost use lib.ListN.{length};
 ghost use Rattle.buffers.specs.Put.{Put};
 ghost use Rattle.decimals.specs.Decimals.{decimalDigits, signedDigits};
 use buffers::put_byte;
+use integers::magnitude;
 
 // A number in decimal: the digits before the last are those of a tenth of it.
 pub fn put_number(buf: &mut [u8], at: usize, value: usize) -> usize
@@ -17,15 +18,14 @@ pub fn put_number(buf: &mut [u8], at: usize, value: usize) -> usize
     put_byte(buf, place, 48 + (value % 10) as u8)
 }
 
-// A signed number in decimal, a negative one with its sign. The least i64 has no opposite, so a negative number's is had as -1 - value, to which 1 is
-// added after the cast.
+// A signed number in decimal, a negative one with its sign.
 pub fn put_signed(buf: &mut [u8], at: usize, value: i64) -> usize
     requires { ⌜ at + length (signedDigits value) ≤ length (now buf) ⌝ }
     ensures { λ r. ⌜ Put (now (buf .entry)) at (signedDigits value) (now (buf .exit)) r ⌝ }
 {
     if value < 0 {
         let place = put_byte(buf, at, b'-');
-        return put_number(buf, place, (-1 - value) as usize + 1);
+        return put_number(buf, place, magnitude(value));
     }
-    put_number(buf, at, value as usize)
+    put_number(buf, at, magnitude(value))
 }

@@ -1,4 +1,3 @@
-pub mod Differences
 pub mod Totals
 pub mod Steps
 pub mod Rao

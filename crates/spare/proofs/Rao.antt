@@ -22,7 +22,7 @@ use Rattle.finite.proofs.Sums.{sum-ext, sum-add, sum-const, sum-mul, sum-exchan
 use Rattle.order.specs.Order.{total}
 use Rattle.counting.specs.Table.{Table, columns, levelsOf, Setting, shows, times, combinations, Apart, Settings, InRange, Even}
 use Rattle.spare.specs.Spare.{spare}
-use Rattle.spare.proofs.Differences.{difference-positive}
+use Rattle.integers.proofs.Differences.{difference-positive}
 use Rattle.spare.proofs.Totals.{total-columns, total-least, spare-total}
 
 -- ---- numbers

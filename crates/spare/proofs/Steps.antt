@@ -26,7 +26,7 @@ use Rattle.step_tables.proofs.Lists.{measure-flatMap, count-member, member-mem,
 use Rattle.step_tables.proofs.Merge.{merge-columns}
 use Rattle.step_tables.proofs.Split.{split-columns}
 use Rattle.spare.specs.Spare.{degrees, spareOf, spare}
-use Rattle.spare.proofs.Differences.{difference-sum, same-difference}
+use Rattle.integers.proofs.Differences.{difference-sum, same-difference}
 use Rattle.spare.proofs.Totals.{total-append, total-columns, spare-total}
 
 -- the level counts of some sources, place by place

@@ -17,7 +17,7 @@ use Rattle.order.specs.Order.{total}
 use Rattle.counting.specs.Table.{Table, columns}
 use Rattle.step_tables.specs.Sheet.{AllLevels, LevelCount, SmallEnough}
 use Rattle.spare.specs.Spare.{degrees, spareOf, spare}
-use Rattle.spare.proofs.Differences.{difference-sum, difference-less, difference-most, sum-most}
+use Rattle.integers.proofs.Differences.{difference-sum, difference-less, difference-most, sum-most}
 
 pub total-append : (xs ys : List ℕ) → total (xs ++ ys) ≡ total xs + total ys
 total-append [] ys = omega arith

@@ -4,6 +4,7 @@ ghost use Prim.Native.Nat.{_≤_};
 ghost use lib.ListN.{length, take};
 ghost use Rattle.sheets.specs.declared.answer.Answer.the-variants.{Filled};
 ghost use Rattle.spare.specs.Spare.{spareOf};
+use integers::difference;
 use sheets::answer::Answer;
 
 // The spare degrees of a table of so many runs and columns, whose level counts stand at the front of a list. What is added and what is taken away
@@ -18,7 +19,7 @@ pub fn spare_of(runs: usize, columns: usize, levels: &[u8]) -> i64
         less += levels[column] as usize;
         column += 1;
     }
-    (runs + columns) as i64 - less as i64
+    difference(runs + columns, less)
 }
 
 // The answer to such a table: its size, and its spare degrees worked out. TAKE, FIELD and SUM answer so.

@@ -1,16 +1,15 @@
 -- `spare::spare_of` meets its contract. The loop's invariant: what is taken away so far is 1 and the level counts passed.
 use mathlib.Core.Path.{_≡_, refl, sym, _∙_, ap, ap₂}
-use Prim.Native.Nat.{ℕ, _+_, _-_, _*_, _≤_}
+use Prim.Native.Nat.{_+_, _-_, _*_, _≤_}
 use native.Mathlib.Nat.{le-antisymm}
 use native.Mathlib.Omega.{arith}
+use borrow.Author.Needs.{sfits-of}
 use lib.IntN.{pos, _-ℤ_}
+use mir.Facts.{toZ-ofZ}
+use mir.Syntax.{w64}
 use lib.ListN.{length, take}
 use lib.Seq.{length-take-le}
-use mir.Facts.{toZ-pos, toZ-ofZ}
-use mir.Syntax.{w64}
-use mir.Val.{SFits, toZ}
 use Rattle.order.specs.Order.{total}
-use Rattle.spare.proofs.Differences.{difference-most}
 use Rattle.spare.proofs.Totals.{total-next, spare-total}
 use Rattle.spare.proofs.spare_of.Statement.{statement}
 use Rattle.spare.proofs.spare_of.Tie as tie
@@ -28,10 +27,10 @@ shared-slice-read-less : tie.Need-shared-slice-read-less Inv-loop μ-loop
 shared-slice-read-less c = omega arith
 
 cast-less : tie.Need-cast-less Inv-loop μ-loop
-cast-less c = omega (arith, c .shared-slice-known .given (c .before .before .loop .column))
+cast-less c = omega (arith, c .shared-slice-known2 .given (c .before .before .loop .column))
 
 add-less : tie.Need-add-less Inv-loop μ-loop
-add-less c = omega (arith, c .shared-slice-known .given (c .before .before .loop .column))
+add-less c = omega (arith, c .shared-slice-known2 .given (c .before .before .loop .column))
 
 add-column : tie.Need-add-column Inv-loop μ-loop
 add-column c = omega arith
@@ -41,44 +40,26 @@ loop-less c = omega arith
 
 loop-again : tie.Need-loop-again Inv-loop μ-loop
 loop-again c =
-    let byte = c .shared-slice-known .given (c .before .before .loop .column) in
-    let next = total-next (c .before .before .before .args .levels .now) (c .before .before .loop .column) (omega arith) in
+    let byte = c .shared-slice-known2 .given (c .before .before .loop .column) in
+    let next = total-next (c .before .before .before .before .args .levels .now) (c .before .before .loop .column) (omega arith) in
     (omega arith, omega arith, omega arith)
 
--- at the end: what is added, and what is taken away
-abbrev more : tie.After-loop Inv-loop μ-loop → ℕ
-more c = c .before .before .args .runs + c .before .before .args .columns
+add-difference : tie.Need-add-difference Inv-loop μ-loop
+add-difference c = omega arith
 
-more-is : (c : tie.After-loop Inv-loop μ-loop) → toZ w64 (more c) ≡ pos (more c)
-more-is c = toZ-pos w64 (omega arith)
-
-less-is : (c : tie.After-loop Inv-loop μ-loop) → toZ w64 (c .before .loop .less) ≡ pos (c .before .loop .less)
-less-is c = toZ-pos w64 (omega arith)
-
-fits : (c : tie.After-loop Inv-loop μ-loop) → SFits w64 (pos (more c) -ℤ pos (c .before .loop .less))
-fits c = record { sfits = omega (arith, difference-most (more c) (c .before .loop .less)) }
-
-add-result : tie.Need-add-result Inv-loop μ-loop
-add-result c = omega arith
-
-cast-result : tie.Need-cast-result Inv-loop μ-loop
-cast-result c = record { sfits = omega arith }
-
-cast-result-2 : tie.Need-cast-result-2 Inv-loop μ-loop
-cast-result-2 c = record { sfits = omega arith }
-
-sub-result : tie.Need-sub-result Inv-loop μ-loop
-sub-result c = rw (more-is c, less-is c) (fits c)
+difference-requires : tie.Need-difference-requires Inv-loop μ-loop
+difference-requires c κs = (omega arith, omega arith)
 
 returns : tie.Need-returns Inv-loop μ-loop
 returns c =
-    let args = c .before .before .args in
-    let end : c .before .loop .column ≡ args .columns = le-antisymm (c .before .loop .inv .0) (c .loop-test .left) in
-    let many : length (take (args .columns) (args .levels .now)) ≡ args .columns = length-take-le _ _ (c .before .before .pre .2) in
-    rw (more-is c, less-is c)
-    (toZ-ofZ (fits c)
-    ∙ ap₂ (λ m n. pos (args .runs + m) -ℤ pos n) (sym many) (c .before .loop .inv .1 ∙ ap (λ k. 1 + total (take k (args .levels .now))) end)
-    ∙ sym (spare-total _ _))
+    let args = c .before .before .before .before .args in
+    let l = c .before .before .loop in
+    let end : l .column ≡ args .columns = le-antisymm (l .inv .0) (c .before .loop-test .left) in
+    let many : length (take (args .columns) (args .levels .now)) ≡ args .columns = length-take-le _ _ (c .before .before .before .before .pre .2) in
+    toZ-ofZ {w = w64} (sfits-of (c .difference .ok))
+    ∙ c .difference .ensures
+    ∙ ap₂ (λ m n. pos (args .runs + m) -ℤ pos n) (sym many) (l .inv .1 ∙ ap (λ k. 1 + total (take k (args .levels .now))) end)
+    ∙ sym (spare-total _ _)
 
 pub spare-of-spec : {M : Type 1} → statement M
 spare-of-spec =
@@ -93,8 +74,6 @@ spare-of-spec =
     add-column
     loop-less
     loop-again
-    add-result
-    cast-result
-    cast-result-2
-    sub-result
+    add-difference
+    difference-requires
     returns)
