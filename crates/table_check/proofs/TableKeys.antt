@@ -4,7 +4,7 @@ use mathlib.Core.Path.{_≡_, sym, _∙_, ap, ap₂}
 use mathlib.Core.Bool.{_&&_, and-true}
 use mathlib.Core.List.{List}
 use Prim.Native.Nat.{ℕ, _+_, _*_, _/_, _%_, _<_}
-use native.Mathlib.Nat.{mul-zero, zero-add, le-refl, lt-of-lt-of-le, mul-le-mul, div-add-mod'}
+use native.Mathlib.Nat.{mul-zero, zero-add, mul-le-mul, div-add-mod'}
 use native.Mathlib.Omega.{arith}
 use lib.Arith.{digits-lt, digits-div, digits-mod}
 use lib.Dec.{eqb}
@@ -16,7 +16,7 @@ use Rattle.counting.specs.Checkable.{CheckableTable}
 use Rattle.counting.specs.Verdict.{columnDeviation, pairDeviation}
 use Rattle.counting.proofs.Deviations.{deviation-ext}
 use Rattle.tally.specs.Tally.{keysDeviation}
-use Rattle.table_check.specs.Keys.{Keyed, levelsKey}
+use Rattle.level_counts.specs.Keys.{Keyed, levelsKey}
 
 -- a number of a pair is that pair's alone
 pub pair-number : (x y t v : ℕ) → y < t → eqb (x * t + y) v ≡ (eqb x (v / t) && eqb y (v % t))
@@ -70,16 +70,3 @@ module _ (cells levels : List ℕ) (runs : ℕ) (ok : CheckableTable cells level
   unfolding keysDeviation pairDeviation tableOf times shows levelsKey InRange
   pair-deviation c d h =
       deviation-ext _ runs (λ v l. count-ext runs (λ r k. rw (pair-number _ _ _ v (ok .in-range r d k h), and-true)))
-
--- keys below n have their counters
-pub enough : {cells : List ℕ} {runs columns first second n : ℕ} {key : ℕ → ℕ} → Keyed cells runs columns first second n key
-    → Keyed cells runs columns first second 4096 key
-enough k =
-    record {
-      whole = k .whole;
-      few = k .few;
-      first-in = k .first-in;
-      second-in = k .second-in;
-      counters-enough = le-refl 4096;
-      keys-below = λ r l. lt-of-lt-of-le (k .keys-below r l) (k .counters-enough);
-    }

@@ -1,11 +1,9 @@
 // The check of a table: every level of every column, then every pair of levels of every two columns, counted over the runs.
-mod levels; // levels.rt: the levels of a column, or of two, counted over the runs
-
 use counting::verdict::TableFault;
 use counting::verdict::TableFinding;
 use counting::verdict::TableVerdict;
 use finite::pairs::IndexPair;
-use levels::levels_deviation;
+use level_counts::levels_deviation;
 use tally::Deviation;
 ghost use mathlib.Core.Path.{_≡_};
 ghost use Prim.Native.Nat.{_<_};

@@ -10,9 +10,9 @@ use lib.ListN.{length, getD}
 use Rattle.finite.proofs.Fits.{place-below, run-more, run-end}
 use Rattle.tally.specs.Tally.{Tallied}
 use Rattle.tally.proofs.Tallies.{tallied-none, tallied-more, counter-fits}
-use Rattle.table_check.specs.Keys.{levelsKey}
-use Rattle.table_check.proofs.levels.tally_levels.Statement.{statement}
-use Rattle.table_check.proofs.levels.tally_levels.Tie as tie
+use Rattle.level_counts.specs.Keys.{levelsKey}
+use Rattle.level_counts.proofs.tally_levels.Statement.{statement}
+use Rattle.level_counts.proofs.tally_levels.Tie as tie
 
 abbrev Inv-loop : tie.InvT-loop
 Inv-loop cells runs columns first weight second counters₀ start₀ run₀ counters start run =

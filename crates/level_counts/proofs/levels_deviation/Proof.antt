@@ -4,9 +4,9 @@ use mathlib.Core.Path.{_∙_, ap}
 use borrow.Author.Needs.{needs}
 use Rattle.tally.specs.Tally.{asDeviation}
 use Rattle.tally.proofs.Tallies.{deviation-tallied, past-keys}
-use Rattle.table_check.proofs.TableKeys.{enough}
-use Rattle.table_check.proofs.levels.levels_deviation.Statement.{statement}
-use Rattle.table_check.proofs.levels.levels_deviation.Tie as tie
+use Rattle.level_counts.proofs.Keys.{enough}
+use Rattle.level_counts.proofs.levels_deviation.Statement.{statement}
+use Rattle.level_counts.proofs.levels_deviation.Tie as tie
 
 tally-levels-requires : tie.Need-tally-levels-requires
 tally-levels-requires c κs = (enough (c .before .before .before .pre .0), c .before .before .before .pre .1)

@@ -3,7 +3,7 @@ use tally::Deviation;
 use tally::first_deviation;
 ghost use mathlib.Core.Path.{_≡_};
 ghost use Rattle.tally.specs.Tally.{Cleared, Tallied, keysDeviation, asDeviation};
-ghost use Rattle.table_check.specs.Keys.{Keyed, levelsKey};
+ghost use Rattle.level_counts.specs.Keys.{Keyed, levelsKey};
 
 // The lowest of n keys that is not the key of the n-th part of the runs. A run's key is the level in `first` times `weight` plus the
 // level in `second`: with t for the weight it is the number of a pair of levels, with 0 the level in `second` alone.
