@@ -5,13 +5,7 @@ ghost use lib.ListN.{length, replicate};
 ghost use Rattle.order.specs.Range.{rangeOf};
 ghost use Rattle.order.specs.declared.Entries.the-variants.{InRange};
 ghost use Rattle.order.specs.Grammar.{readOrder};
-ghost use Rattle.sheets.specs.Outcome.{tableRefusal, matrixRefusal, generatorRefusal};
 ghost use Rattle.question_4.specs.Passing.{Room, passingOf, refusalAt, passingIn};
-use counting::verdict::GeneratorFinding;
-use counting::verdict::MatrixFinding;
-use counting::verdict::TableFault;
-use counting::verdict::TableFinding;
-use counting::verdict::TableVerdict;
 use ingredient_places::ingredient_at;
 use ingredient_places::ingredient_count;
 use list_verdicts::generator_finding;
@@ -19,7 +13,9 @@ use list_verdicts::matrix_finding;
 use list_verdicts::table_verdict;
 use order::Located;
 use question_4::Passing;
-use sheets::answer::Refusal;
+use verdict_answers::generator_passing;
+use verdict_answers::matrix_passing;
+use verdict_answers::table_passing;
 
 // The first ingredient, used or not, that does not pass.
 pub fn first_failing(list: &[u16], cells: &mut [u8], numbers: &mut [u8]) -> Passing
@@ -78,72 +74,5 @@ fn ingredient_passing(list: &[u16], i: usize, cells: &mut [u8], numbers: &mut [u
             generator_finding(list, t, n, s, widths_at, width, entries_at, cells, numbers),
         ),
         Located::Missing => Passing::AllPass,
-    }
-}
-
-// What a table's verdict says of ingredient number i.
-fn table_passing(i: usize, verdict: TableVerdict) -> Passing
-    ensures { λ r. ⌜ r ≡ passingOf (tableRefusal i (verdict .finding)) ⌝ }
-{
-    let finding = verdict.finding;
-    match finding {
-        TableFinding::Passes => Passing::AllPass,
-        TableFinding::Fails(fault) => match fault {
-            TableFault::Column {
-                column,
-                level,
-                times,
-            } => Passing::Refused(Refusal::UnevenLevel {
-                ingredient: i,
-                column,
-                level,
-                times,
-            }),
-            TableFault::Pair {
-                first,
-                second,
-                first_level,
-                second_level,
-                times,
-            } => Passing::Refused(Refusal::UnevenPair {
-                ingredient: i,
-                first,
-                second,
-                first_level,
-                second_level,
-                times,
-            }),
-        },
-    }
-}
-
-// The same of a matrix.
-fn matrix_passing(i: usize, finding: MatrixFinding) -> Passing
-    ensures { λ r. ⌜ r ≡ passingOf (matrixRefusal i finding) ⌝ }
-{
-    match finding {
-        MatrixFinding::Passes => Passing::AllPass,
-        MatrixFinding::Fails(fault) => Passing::Refused(Refusal::UnevenDifference {
-            ingredient: i,
-            first: fault.first,
-            second: fault.second,
-            difference: fault.difference,
-            times: fault.times,
-        }),
-    }
-}
-
-// And of a generator.
-fn generator_passing(i: usize, finding: GeneratorFinding) -> Passing
-    ensures { λ r. ⌜ r ≡ passingOf (generatorRefusal i finding) ⌝ }
-{
-    match finding {
-        GeneratorFinding::Passes => Passing::AllPass,
-        GeneratorFinding::Fails(fault) => Passing::Refused(Refusal::Dependent {
-            ingredient: i,
-            first: fault.first,
-            second: fault.second,
-            coefficients: fault.coefficients,
-        }),
     }
 }

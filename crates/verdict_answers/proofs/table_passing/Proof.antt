@@ -1,10 +1,10 @@
--- `passing::table_passing` meets its contract: each fault becomes the refusal that 01 has for it.
+-- `table_passing` meets its contract: each fault becomes the refusal that 01 has for it.
 -- Assumes nothing.
 use Rattle.sheets.specs.Outcome.{tableRefusal}
 use Rattle.question_4.specs.Passing.{passingOf}
 use borrow.Author.Needs.{needs}
-use Rattle.passing.proofs.table_passing.Statement.{statement}
-use Rattle.passing.proofs.table_passing.Tie as tie
+use Rattle.verdict_answers.proofs.table_passing.Statement.{statement}
+use Rattle.verdict_answers.proofs.table_passing.Tie as tie
 
 enum-told : tie.Need-enum-told
 enum-told c = search needs

@@ -1,10 +1,10 @@
--- `passing::matrix_passing` meets its contract: a fault becomes the refusal that 01 has for it.
+-- `matrix_passing` meets its contract: a fault becomes the refusal that 01 has for it.
 -- Assumes nothing.
 use Rattle.sheets.specs.Outcome.{matrixRefusal}
 use Rattle.question_4.specs.Passing.{passingOf}
 use borrow.Author.Needs.{needs}
-use Rattle.passing.proofs.matrix_passing.Statement.{statement}
-use Rattle.passing.proofs.matrix_passing.Tie as tie
+use Rattle.verdict_answers.proofs.matrix_passing.Statement.{statement}
+use Rattle.verdict_answers.proofs.matrix_passing.Tie as tie
 
 enum-told : tie.Need-enum-told
 enum-told c = search needs
