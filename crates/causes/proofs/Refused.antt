@@ -79,6 +79,7 @@ module _ (o : Order) (i : ℕ) {why : Refusal} where
         levels = levels;
         entries = entries;
         reached = reached;
+        gap = _;
         first-fault = table-fails _ _ found;
       }))
   table-fault rows levels entries reached (Fails (Pair c d x y times)) found e =
@@ -89,6 +90,7 @@ module _ (o : Order) (i : ℕ) {why : Refusal} where
         levels = levels;
         entries = entries;
         reached = reached;
+        gap = _;
         first-fault = table-fails _ _ found;
       }))
 

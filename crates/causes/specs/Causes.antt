@@ -4,6 +4,7 @@ use mathlib.Core.Path.{_≡_}
 use mathlib.Core.Logic.{_⊎_}
 use mathlib.Core.List.{List, _∷_, _++_}
 use Prim.Native.Nat.{ℕ, _+_, _≤_}
+use lib.IntN.{ℤ}
 use lib.ListN.{length}
 use Rattle.galois.specs.Arithmetic.{fieldSum, fieldProduct}
 use Rattle.counting.specs.Table.{Table, columns, tableOf}
@@ -55,13 +56,14 @@ pub record ReachesIngredient (o : Order) (i : ℕ) (g : Ingredient) : Type 0 whe
   pub number : i ≡ length before + 1
   pub passing : All MeetsDefinition before
 
--- it is a table, and the fault is its first: an uneven column before uneven pairs
+-- it is a table, and the fault is its first, an uneven column before uneven pairs, with the gap that goes with it (02, K5)
 pub record TableFails (o : Order) (i : ℕ) (fault : TableFault) : Type 0 where
   pub rows : ℕ
   pub levels : List ℕ
   pub entries : List ℕ
   pub reached : ReachesIngredient o i (table rows levels entries)
-  pub first-fault : FirstFault (tableOf entries levels rows) fault
+  pub gap : ℤ
+  pub first-fault : FirstFault (tableOf entries levels rows) fault gap
 
 -- it is a matrix, and the fault is its first
 pub record MatrixFails (o : Order) (i : ℕ) (fault : DifferenceFault) : Type 0 where

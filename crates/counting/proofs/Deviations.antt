@@ -1,14 +1,18 @@
--- What a deviation from an even count says: none where every value stands in its share of the runs, else the lowest that does not.
+-- What a deviation from an even count says: none where every value stands in its share of the runs, else the lowest that does not; and which value is farthest off.
 -- Assumes nothing.
 use mathlib.Core.Path.{_≡_, refl, sym, ap, subst}
 use mathlib.Core.Bool.{Bool, true, false, cond}
 use mathlib.Core.Logic.{_≢_}
 use mathlib.Core.Option.{Option, none, some, Option·none-ne-some, Option·some-injective}
-use Prim.Native.Nat.{ℕ, _*_, _<_}
+use Prim.Native.Nat.{ℕ, _*_, _≤_, _<_, zero-le}
+use native.Mathlib.Nat.{lt-of-le-of-lt}
 use native.Mathlib.Omega.{arith}
 use borrow.Author.Tests.{eq-eqb, ne-eqb, eqb-true, eqb-false}
+use lib.IntN.{natAbs}
+use Rattle.integers.proofs.Differences.{difference-size}
+use Rattle.finite.proofs.Greatest.{Greatest, greatest-is}
 use Rattle.finite.proofs.Firsts.{first-ext, first-none, first-at, none-below, found-least}
-use Rattle.counting.specs.Verdict.{Counted, deviation, tableFinding}
+use Rattle.counting.specs.Verdict.{Counted, deviation, gap, farthest, tableFinding}
 use Rattle.counting.specs.declared.verdict.TableFault.{TableFault}
 use Rattle.counting.specs.declared.verdict.TableFinding.the-variants.{Passes, Fails}
 
@@ -55,6 +59,32 @@ module _ (n N : ℕ) (timesOf : ℕ → ℕ) where
         uneven = eqb-false _ _ (p .0);
         before = λ v h. eqb-true _ _ (cond-none _ _ (l .before v h));
       })
+
+  -- the size of a value's gap
+  abbrev size : ℕ → ℕ
+  size v = natAbs (gap n N (timesOf v))
+
+  -- no value is farther off than w, each before it is less far off, and w is uneven
+  pub record Farthest (w : ℕ) : Type 0 where
+    pub below : w < n
+    pub uneven : n * timesOf w ≢ N
+    pub none-farther : (v : ℕ) → v < n → size v ≤ size w
+    pub before : (v : ℕ) → v < w → size v < size w
+
+  -- where a value is uneven, so is the one that is farthest off
+  pub some-farthest : (x : Counted) → deviation n N timesOf ≡ some x → Farthest (farthest n N timesOf)
+  unfolding farthest
+  some-farthest x e =
+      let l = some-lowest x e in
+      let w = farthest n N timesOf in
+      let g : Greatest size n w = greatest-is size n (lt-of-le-of-lt zero-le (l .below)) in
+      record {
+        below = g .below;
+        uneven = λ even. l .uneven
+            (omega (arith, g .most (x .value) (l .below), difference-size (n * timesOf (x .value)) N, difference-size (n * timesOf w) N));
+        none-farther = g .most;
+        before = g .before;
+      }
 
 pub deviation-ext : (n N : ℕ) {f g : ℕ → ℕ} → ((v : ℕ) → v < n → f v ≡ g v) → deviation n N f ≡ deviation n N g
 unfolding deviation

@@ -5,22 +5,24 @@ use mathlib.Core.Logic.{_↔_, _≢_, _⊎_, inl, inr, by-cases, ⊎-elim}
 use mathlib.Core.Bool.{and-true, and-comm}
 use mathlib.Core.List.{List, [], _∷_}
 use mathlib.Core.Option.{Option, none, some, Option·map, Option·some-ne-none, map-eq-none-iff, map-eq-some-iff}
-use Prim.Native.Nat.{ℕ, _+_, _*_, _/_, _%_, _<_, zero-le}
-use native.Mathlib.Nat.{mul-zero, mul-one, one-mul, mul-comm, lt-trans, lt-of-le-of-lt, lt-of-lt-of-le, ne-of-lt, not-suc-le-zero, eq-zero-or-pos, mod-lt, div-lt-iff-lt-mul, div-mul-le-self, div-add-mod'}
+use Prim.Native.Nat.{ℕ, _+_, _*_, _/_, _%_, _≤_, _<_, zero-le}
+use native.Mathlib.Nat.{mul-zero, mul-one, one-mul, mul-comm, add-sub-cancel, lt-trans, lt-of-le-of-lt, lt-of-lt-of-le, ne-of-lt, not-suc-le-zero, eq-zero-or-pos, mod-lt, div-lt-iff-lt-mul, div-mul-le-self, div-add-mod'}
 use native.Mathlib.Omega.{arith}
 use native.Mathlib.Decide.{decLt}
 use lib.Arith.{lt-of-le-ne, digits-lt, digits-div, digits-mod}
 use lib.Dec.{eqb, lit≤}
+use lib.IntN.{pos, natAbs}
 use Rattle.finite.specs.First.{_orElse_}
 use Rattle.finite.proofs.Counts.{count-ext, count-all}
 use Rattle.finite.proofs.Firsts.{first-none, none-below, found-least, pair-none, none-pair, found-pair}
 use Rattle.counting.specs.Table.{Table, Setting, columns, levelsOf, shows, times, combinations, Apart, Settings, Even}
-use Rattle.counting.specs.Verdict.{Counted, columnDeviation, columnFault, columnsFault, pairAt, pairDeviation, pairFault, pairsFault, tableFinding, tableVerdict}
-use Rattle.counting.specs.Failures.{EvenLevel, EvenPair, EvenColumn, EvenColumns, FirstFault, level, pair}
+use Rattle.counting.specs.Verdict.{Counted, gap, columnDeviation, columnFault, columnsFault, pairAt, pairDeviation, farthestPair, namedPair, pairFault, pairsFault, tableFinding, faultGap, verdictOf, tableVerdict}
+use Rattle.counting.specs.Failures.{EvenLevel, EvenPair, pairGap, EvenColumn, EvenColumns, FirstFault, level, pair}
 use Rattle.counting.specs.declared.verdict.TableFault.{TableFault}
-use Rattle.counting.specs.declared.verdict.TableFault.the-variants.{Column, Pair}
+use Rattle.counting.specs.declared.verdict.TableFault.the-variants.{Column}
 use Rattle.counting.specs.declared.verdict.TableFinding.the-variants.{Passes, Fails}
-use Rattle.counting.proofs.Deviations.{deviation-none, none-even, passes-none, fails-some, some-lowest}
+use Rattle.counting.specs.declared.verdict.TableVerdict.{TableVerdict}
+use Rattle.counting.proofs.Deviations.{deviation-none, none-even, passes-none, fails-some, some-lowest, some-farthest}
 
 -- a level of a column, and levels of two columns
 abbrev one : ℕ → ℕ → List Setting
@@ -83,6 +85,12 @@ pair-numbered : (T : Table) (c d x y : ℕ) → y < levelsOf T d
 unfolding EvenPair
 pair-numbered T c d x y h e = rw (digits-div x h, digits-mod x h) at e
 
+-- and so does its gap
+gap-numbered : (T : Table) (c d x y : ℕ) → y < levelsOf T d
+    → gap (levelsOf T c * levelsOf T d) (T .runs) (times T (pairAt T c d (x * levelsOf T d + y))) ≡ pairGap T c d x y
+unfolding pairGap
+gap-numbered T c d x y h = rw (digits-div x h, digits-mod x h)
+
 -- ---- nothing is found exactly where every count is even
 column-even : (T : Table) (c : ℕ) → columnFault T c ≡ none → EvenColumn T c
 unfolding EvenLevel columnDeviation
@@ -122,7 +130,7 @@ checked-pairs T k = pair-none _ _ (λ c d h hd. even-columns T c d (k .pairs c d
 -- ---- what is found is the first failure
 lowest-level : (T : Table) (c : ℕ) (x : Counted) → c < columns T → ((d : ℕ) → d < c → EvenColumn T d)
     → columnDeviation T c ≡ some x
-    → FirstFault T (Column (c + 1) (x .value) (x .times))
+    → FirstFault T (Column (c + 1) (x .value) (x .times)) (pos 0)
 unfolding columnDeviation EvenLevel
 lowest-level T c x h before e =
     let l = some-lowest _ _ _ x e in
@@ -136,56 +144,77 @@ lowest-level T c x h before e =
       levels-before = l .before;
     })
 
-first-level-fault : (T : Table) (fault : TableFault) → columnsFault T ≡ some fault → FirstFault T fault
+-- a fault, with the gap that goes with it
+abbrev First : Table → TableFault → Type 0
+First T fault = FirstFault T fault (faultGap T (some fault))
+
+first-level-fault : (T : Table) (fault : TableFault) → columnsFault T ≡ some fault → First T fault
 unfolding columnsFault
 first-level-fault T fault e =
     let l = found-least _ _ fault e in
     let m = map-eq-some-iff _ _ .0 (l .there) in
-    subst (FirstFault T) (m .2)
+    subst (First T) (m .2)
     (lowest-level T (l .place) (m .0) (l .below) (λ d h. column-even T d (l .before d h)) (m .1))
 
-lowest-pair : (T : Table) (c d : ℕ) (x : Counted) → c < d → d < columns T
+-- columns are named from 1
+pub named-gap : (T : Table) (c d v : ℕ)
+    → faultGap T (some (namedPair T c d v)) ≡ gap (levelsOf T c * levelsOf T d) (T .runs) (times T (pairAt T c d v))
+named-gap T c d v = rw (add-sub-cancel c 1, add-sub-cancel d 1)
+
+farthest-pair : (T : Table) (c d : ℕ) (x : Counted) → c < d → d < columns T
     → ((b : ℕ) → b < columns T → EvenColumn T b)
     → ((a b : ℕ) → a < c → a < b → b < columns T → EvenColumns T a b)
     → ((b : ℕ) → c < b → b < d → EvenColumns T c b)
     → pairDeviation T c d ≡ some x
-    → FirstFault T (Pair (c + 1) (d + 1) (x .value / levelsOf T d) (x .value % levelsOf T d) (x .times))
-unfolding pairDeviation EvenPair
-lowest-pair T c d x h hd cs firsts seconds e =
-    let l = some-lowest _ _ _ x e in
-    pair c d (x .value / levelsOf T d) (x .value % levelsOf T d) (x .times)
+    → First T (namedPair T c d (farthestPair T c d))
+unfolding pairDeviation farthestPair EvenPair pairGap
+farthest-pair T c d x h hd cs firsts seconds e =
+    let f = some-farthest _ _ _ x e in
+    let w = farthestPair T c d in
+    let named = pairGap T c d (w / levelsOf T d) (w % levelsOf T d) in
+    rw (named-gap T c d w)
+    (pair c d (w / levelsOf T d) (w % levelsOf T d) (times T (pairAt T c d w))
     (record {
       ordered = h;
       second-in = hd;
-      first-level-in = first-level _ _ (x .value) (l .below);
-      second-level-in = second-level _ _ (x .value) (l .below);
-      counted = l .counted;
-      uneven = l .uneven;
+      first-level-in = first-level _ _ w (f .below);
+      second-level-in = second-level _ _ w (f .below);
+      counted = refl;
+      uneven = f .uneven;
       all-columns = cs;
       firsts-before = firsts;
       seconds-before = seconds;
-      first-levels-before = λ u v hu hv. pair-numbered T c d u v hv (l .before _ (lt-of-lt-of-le (digits-lt hu hv) (div-mul-le-self (x .value) _)));
-      second-levels-before = λ v hv. pair-numbered T c d _ v (lt-trans hv (second-level _ _ (x .value) (l .below)))
-          (l .before (x .value / levelsOf T d * levelsOf T d + v) (omega (arith, div-add-mod' (x .value) (levelsOf T d))));
-    })
+      none-farther = λ u v hu hv. subst (λ g. natAbs g ≤ natAbs named) (gap-numbered T c d u v hv) (f .none-farther _ (digits-lt hu hv));
+      first-levels-before = λ u v hu hv. subst (λ g. natAbs g < natAbs named) (gap-numbered T c d u v hv)
+          (f .before _ (lt-of-lt-of-le (digits-lt hu hv) (div-mul-le-self w _)));
+      second-levels-before = λ v hv. subst (λ g. natAbs g < natAbs named) (gap-numbered T c d (w / levelsOf T d) v (lt-trans hv (second-level _ _ w (f .below))))
+          (f .before (w / levelsOf T d * levelsOf T d + v) (omega (arith, div-add-mod' w (levelsOf T d))));
+    }))
 
-first-pair-fault : (T : Table) (fault : TableFault) → columnsFault T ≡ none → pairsFault T ≡ some fault → FirstFault T fault
+first-pair-fault : (T : Table) (fault : TableFault) → columnsFault T ≡ none → pairsFault T ≡ some fault → First T fault
 unfolding pairsFault
 first-pair-fault T fault n e =
     let l = found-pair _ _ fault e in
     let m = map-eq-some-iff _ _ .0 (l .there) in
-    subst (FirstFault T) (m .2)
-    (lowest-pair T (l .one) (l .other) (m .0) (l .ordered) (l .below) (all-columns-even T n)
+    subst (First T) (m .2)
+    (farthest-pair T (l .one) (l .other) (m .0) (l .ordered) (l .below) (all-columns-even T n)
     (λ a b h g k. columns-even T a b (l .earlier a b h g k))
     (λ b g h. columns-even T (l .one) b (l .nearer b g h))
     (m .1))
 
 -- ---- the verdict
-pub verdict-column : (T : Table) (fault : TableFault) → columnsFault T ≡ some fault → record { finding = Fails fault } ≡ tableVerdict T
-unfolding tableVerdict
-verdict-column T fault e = rw e
+level-gap : (T : Table) (fault : TableFault) → columnsFault T ≡ some fault → pos 0 ≡ faultGap T (some fault)
+unfolding columnsFault
+level-gap T fault e =
+    let l = found-least _ _ fault e in
+    let m = map-eq-some-iff (λ (x : Counted). Column (l .place + 1) (x .value) (x .times)) (columnDeviation T (l .place)) .0 (l .there) in
+    subst (λ f. pos 0 ≡ faultGap T (some f)) (m .2) refl
 
-pub verdict-pairs : (T : Table) → columnsFault T ≡ none → record { finding = tableFinding (pairsFault T) } ≡ tableVerdict T
+pub verdict-column : (T : Table) (fault : TableFault) → columnsFault T ≡ some fault → record { finding = Fails fault; gap = pos 0 } ≡ tableVerdict T
+unfolding tableVerdict
+verdict-column T fault e = rw (e, level-gap T fault e)
+
+pub verdict-pairs : (T : Table) → columnsFault T ≡ none → verdictOf T (pairsFault T) ≡ tableVerdict T
 unfolding tableVerdict
 verdict-pairs T e = rw e
 
@@ -197,9 +226,15 @@ orElse-some : {A : Type 0} (a b : Option A) (x : A) → a orElse b ≡ some x �
 orElse-some none b x e = inr (refl, e)
 orElse-some (some y) b x e = inl e
 
-verdict-finding : (T : Table) → tableFinding (columnsFault T orElse pairsFault T) ≡ tableVerdict T .finding
+verdict-is : (T : Table) → verdictOf T (columnsFault T orElse pairsFault T) ≡ tableVerdict T
 unfolding tableVerdict
-verdict-finding T = refl
+verdict-is T = refl
+
+verdict-finding : (T : Table) → tableFinding (columnsFault T orElse pairsFault T) ≡ tableVerdict T .finding
+verdict-finding T = ap (λ (v : TableVerdict). v .finding) (verdict-is T)
+
+verdict-gap : (T : Table) → faultGap T (columnsFault T orElse pairsFault T) ≡ tableVerdict T .gap
+verdict-gap T = ap (λ (v : TableVerdict). v .gap) (verdict-is T)
 
 -- A table passes exactly when it is even at strength two.
 pub table-passes : (T : Table) → (tableVerdict T .finding ≡ Passes) ↔ Even 2 T
@@ -215,8 +250,14 @@ table-passes T = (to, from)
         let k = even-checked T e in
         sym (verdict-finding T) ∙ rw (checked-columns T k, checked-pairs T k)
 
--- What a table's verdict names fails, and nothing before it does.
-pub table-fails : (T : Table) (fault : TableFault) → tableVerdict T .finding ≡ Fails fault → FirstFault T fault
+-- After a pass the gap is 0.
+pub passes-gap : (T : Table) → tableVerdict T .finding ≡ Passes → tableVerdict T .gap ≡ pos 0
+passes-gap T e = sym (verdict-gap T) ∙ ap (faultGap T) (passes-none (columnsFault T orElse pairsFault T) (sym (verdict-finding T ∙ e)))
+
+-- What a table's verdict names fails, and nothing before it does; of the first two uneven columns it is the pair that is farthest off. The verdict's gap goes
+-- with it.
+pub table-fails : (T : Table) (fault : TableFault) → tableVerdict T .finding ≡ Fails fault → FirstFault T fault (tableVerdict T .gap)
 table-fails T fault e =
-    ⊎-elim (first-level-fault T fault) (λ p. first-pair-fault T fault (p .0) (p .1))
-    (orElse-some _ _ fault (fails-some _ fault (sym (verdict-finding T ∙ e))))
+    let found = fails-some _ fault (sym (verdict-finding T ∙ e)) in
+    subst (FirstFault T fault) (ap (faultGap T) (sym found) ∙ verdict-gap T)
+    (⊎-elim (first-level-fault T fault) (λ p. first-pair-fault T fault (p .0) (p .1)) (orElse-some _ _ fault found))

@@ -1,12 +1,14 @@
--- What a verdict names: something that does fail, with nothing before it that does (document 01, question 4). Columns and factors count from
--- 1 where they are named, from 0 here.
+-- What a verdict names: something that does fail, with nothing before it that does (document 01, question 4), and of two columns the pair of levels that is
+-- farthest off (document 02, K5). Columns and factors count from 1 where they are named, from 0 here.
 use mathlib.Core.Path.{_≡_}
 use mathlib.Core.List.{List, [], _∷_, map}
-use Prim.Native.Nat.{ℕ, _+_, _*_, _^_, _<_}
+use Prim.Native.Nat.{ℕ, _+_, _*_, _^_, _≤_, _<_}
+use lib.IntN.{ℤ, pos, natAbs}
 use lib.ListN.{length}
 use Rattle.finite.specs.Digits.{digits}
 use Rattle.galois.specs.Combination.{combination}
 use Rattle.counting.specs.Table.{Table, columns, levelsOf, times}
+use Rattle.counting.specs.Verdict.{gap}
 use Rattle.counting.specs.Matrix.{Matrix, differences}
 use Rattle.counting.specs.Generator.{Generator, factors, columnsOf, IndependentColumns}
 use Rattle.counting.specs.declared.verdict.DependenceFault.{DependenceFault}
@@ -40,8 +42,14 @@ pub record FirstLevel (T : Table) (c x n : ℕ) : Type 0 where
   pub columns-before : (d : ℕ) → d < c → EvenColumn T d
   pub levels-before : (y : ℕ) → y < x → EvenLevel T c y
 
--- the first two columns with an uneven pair of levels, their lowest uneven pair, the first column's level leading, and in how many runs it stands
-pub record FirstPair (T : Table) (c d x y n : ℕ) : Type 0 where
+-- by how much levels x of column c and y of column d are off: s × t × times − N (02, K5)
+unfoldable pub pairGap : Table → ℕ → ℕ → ℕ → ℕ → ℤ
+pairGap T c d x y =
+    gap (levelsOf T c * levelsOf T d) (T .runs) (times T (record { column = c; level = x } ∷ record { column = d; level = y } ∷ []))
+
+-- The first two columns with an uneven pair of levels, of their pairs the one that is farthest off, and in how many runs it stands (02, K5). No pair of
+-- theirs is farther off, by the size of its gap, and each pair before it, the first column's level leading, is less far off.
+pub record FarthestPair (T : Table) (c d x y n : ℕ) : Type 0 where
   pub ordered : c < d
   pub second-in : d < columns T
   pub first-level-in : x < levelsOf T c
@@ -51,12 +59,14 @@ pub record FirstPair (T : Table) (c d x y n : ℕ) : Type 0 where
   pub all-columns : (b : ℕ) → b < columns T → EvenColumn T b
   pub firsts-before : (a b : ℕ) → a < c → a < b → b < columns T → EvenColumns T a b
   pub seconds-before : (b : ℕ) → c < b → b < d → EvenColumns T c b
-  pub first-levels-before : (u v : ℕ) → u < x → v < levelsOf T d → EvenPair T c d u v
-  pub second-levels-before : (v : ℕ) → v < y → EvenPair T c d x v
+  pub none-farther : (u v : ℕ) → u < levelsOf T c → v < levelsOf T d → natAbs (pairGap T c d u v) ≤ natAbs (pairGap T c d x y)
+  pub first-levels-before : (u v : ℕ) → u < x → v < levelsOf T d → natAbs (pairGap T c d u v) < natAbs (pairGap T c d x y)
+  pub second-levels-before : (v : ℕ) → v < y → natAbs (pairGap T c d x v) < natAbs (pairGap T c d x y)
 
-pub data FirstFault (T : Table) : TableFault → Type 0 where
-  level : (c x n : ℕ) → FirstLevel T c x n → FirstFault T (Column (c + 1) x n)
-  pair : (c d x y n : ℕ) → FirstPair T c d x y n → FirstFault T (Pair (c + 1) (d + 1) x y n)
+-- what is named, and the gap that goes with it: that of a pair of levels, and 0 for a level (02, K5)
+pub data FirstFault (T : Table) : TableFault → ℤ → Type 0 where
+  level : (c x n : ℕ) → FirstLevel T c x n → FirstFault T (Column (c + 1) x n) (pos 0)
+  pair : (c d x y n : ℕ) → FarthestPair T c d x y n → FirstFault T (Pair (c + 1) (d + 1) x y n) (pairGap T c d x y)
 
 -- column c minus column d is v in M ÷ p rows
 unfoldable pub EvenDifference : Matrix → ℕ → ℕ → ℕ → Type 0

@@ -1,10 +1,12 @@
--- The verdicts on a table and on a difference matrix, with the first failure: document 01, question 4.
+-- The verdicts on a table and on a difference matrix, with the first failure: document 01, question 4; document 02, K5.
 use mathlib.Core.Bool.{cond}
 use mathlib.Core.List.{List, [], _∷_}
 use mathlib.Core.Option.{Option, none, some, Option·map}
-use Prim.Native.Nat.{ℕ, _+_, _*_, _/_, _%_}
+use Prim.Native.Nat.{ℕ, _+_, _-_, _*_, _/_, _%_}
 use lib.Dec.{eqb}
+use lib.IntN.{ℤ, pos, natAbs, _-ℤ_}
 use Rattle.finite.specs.First.{first, firstPair, _orElse_}
+use Rattle.finite.specs.Greatest.{greatest}
 use Rattle.counting.specs.Table.{Table, columns, levelsOf, Setting, times}
 use Rattle.counting.specs.Matrix.{Matrix, differences}
 use Rattle.counting.specs.declared.verdict.DifferenceFault.{DifferenceFault}
@@ -26,6 +28,14 @@ unfoldable pub deviation : ℕ → ℕ → (ℕ → ℕ) → Option Counted
 deviation n N timesOf =
     first n (λ v. cond (eqb (n * timesOf v) N) none (some (record { value = v; times = timesOf v })))
 
+-- by how much a value is off that stands in so many of N runs: n × times − N, below zero where it is short and above where it is over (02, K5)
+abbrev pub gap : ℕ → ℕ → ℕ → ℤ
+gap n N times = pos (n * times) -ℤ pos N
+
+-- of n values the one that is farthest off, the sign of its gap ignored, and the lowest among equals (02, K5)
+unfoldable pub farthest : ℕ → ℕ → (ℕ → ℕ) → ℕ
+farthest n N timesOf = greatest n (λ v. natAbs (gap n N (timesOf v)))
+
 -- the lowest uneven level of column c
 unfoldable pub columnDeviation : Table → ℕ → Option Counted
 columnDeviation T c =
@@ -44,11 +54,17 @@ pairAt T c d v =
 unfoldable pub pairDeviation : Table → ℕ → ℕ → Option Counted
 pairDeviation T c d = deviation (levelsOf T c * levelsOf T d) (T .runs) (λ v. times T (pairAt T c d v))
 
+-- the number of the pair of levels of columns c and d that is farthest off
+unfoldable pub farthestPair : Table → ℕ → ℕ → ℕ
+farthestPair T c d = farthest (levelsOf T c * levelsOf T d) (T .runs) (λ v. times T (pairAt T c d v))
+
+-- pair number v as it is named
+abbrev pub namedPair : Table → ℕ → ℕ → ℕ → TableFault
+namedPair T c d v = Pair (c + 1) (d + 1) (v / levelsOf T d) (v % levelsOf T d) (times T (pairAt T c d v))
+
+-- where two columns have an uneven pair of levels, the one that is farthest off is named (02, K5)
 abbrev pub pairFault : Table → ℕ → ℕ → Option TableFault
-pairFault T c d =
-    Option·map
-    (λ (x : Counted). Pair (c + 1) (d + 1) (x .value / levelsOf T d) (x .value % levelsOf T d) (x .times))
-    (pairDeviation T c d)
+pairFault T c d = Option·map (λ (x : Counted). namedPair T c d (farthestPair T c d)) (pairDeviation T c d)
 
 -- the first failure of a column
 unfoldable pub columnsFault : Table → Option TableFault
@@ -62,9 +78,23 @@ abbrev pub tableFinding : Option TableFault → TableFinding
 tableFinding none = Passes
 tableFinding (some fault) = Fails fault
 
+-- the gap of the pair of levels that is named, s × t × times − N; it is 0 where a level is named, and where nothing is (02, K5)
+abbrev pub faultGap : Table → Option TableFault → ℤ
+faultGap T none = pos 0
+faultGap T (some (Column c x n)) = pos 0
+faultGap T (some (Pair c d x y n)) = gap (levelsOf T (c - 1) * levelsOf T (d - 1)) (T .runs) n
+
+-- the verdict that a fault, or none, comes to
+abbrev pub verdictOf : Table → Option TableFault → TableVerdict
+verdictOf T fault = record { finding = tableFinding fault; gap = faultGap T fault }
+
+-- the verdict that names the farthest pair of columns c and d
+abbrev pub farthestVerdict : Table → ℕ → ℕ → TableVerdict
+farthestVerdict T c d = verdictOf T (some (namedPair T c d (farthestPair T c d)))
+
 -- columns are tried before pairs
 unfoldable pub tableVerdict : Table → TableVerdict
-tableVerdict T = record { finding = tableFinding (columnsFault T orElse pairsFault T) }
+tableVerdict T = verdictOf T (columnsFault T orElse pairsFault T)
 
 -- the lowest difference of columns c and d that does not stand in exactly M ÷ p rows
 unfoldable pub differenceDeviation : Matrix → ℕ → ℕ → Option Counted

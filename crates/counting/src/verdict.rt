@@ -21,8 +21,11 @@ pub enum TableFinding {
     Fails(TableFault),
 }
 
+// What was found, and by how much the pair of levels that it names is off (02, K5): s x t x times less the number of runs, which is below zero where the
+// pair is short and above where it is over. Where no pair is named the gap is 0.
 pub struct TableVerdict {
     pub finding: TableFinding,
+    pub gap: i64,
 }
 
 // What is wrong with a difference matrix: a difference of two columns, first minus second.

@@ -11,9 +11,11 @@ use mir.Syntax.{Width, w64}
 use mir.Val.{Fits, bits}
 
 -- a number within a bound times one that fits a width
+pub product-below : {a b m : ℕ} {w : Width} (k : ℕ) → a ≤ m → Fits w b → T (ltb (m * 2 ^ bits w) k) → a * b < k
+product-below {m = m} {w = w} k ha hb t = lt-of-le-of-lt (mul-le-mul ha (le-of-lt (hb .fits))) (ltb→lt (m * 2 ^ bits w) k t)
+
 pub product-fits : {a b m : ℕ} {w : Width} → a ≤ m → Fits w b → T (ltb (m * 2 ^ bits w) (2 ^ 64)) → Fits w64 (a * b)
-product-fits {m = m} {w = w} ha hb t =
-    record { fits = lt-of-le-of-lt (mul-le-mul ha (le-of-lt (hb .fits))) (ltb→lt (m * 2 ^ bits w) (2 ^ 64) t) }
+product-fits ha hb t = record { fits = product-below (2 ^ 64) ha hb t }
 
 -- a place in a run
 pub place-below : {r runs c columns n : ℕ} → r < runs → c < columns → runs * columns ≤ n → r * columns + c < n

@@ -2,6 +2,7 @@ pub mod Tests
 pub mod Sums
 pub mod Counts
 pub mod Firsts
+pub mod Greatest
 pub mod Lists
 pub mod Digits
 pub mod Fits

@@ -1,12 +1,13 @@
 -- Differences of two numbers, as integers: how they add up, when they are the same, and how large they are.
 -- Assumes nothing.
-use mathlib.Core.Path.{_≡_, sym, _∙_, ap, ap₂}
+use mathlib.Core.Path.{_≡_, refl, sym, _∙_, ap, ap₂}
 use mathlib.Core.Bool.{Bool, true, false, cond}
 use Prim.Native.Nat.{ℕ, zero, suc, _+_, _-_, _≤_, zero-le}
 use native.Mathlib.Nat.{add-comm}
 use native.Mathlib.Omega.{arith}
+use borrow.Author.Tests.{ltb-true, ltb-false}
 use lib.Dec.{ltb, le→leb}
-use lib.IntN.{ℤ, pos, negsuc, negℤ, _+ℤ_, _-ℤ_, +ℤ-assoc, +ℤ-comm, +ℤ-invr, +ℤ-idr, negℤ-+ℤ, negℤ-negℤ}
+use lib.IntN.{ℤ, pos, negsuc, negℤ, natAbs, _+ℤ_, _-ℤ_, +ℤ-assoc, +ℤ-comm, +ℤ-invr, +ℤ-idr, negℤ-+ℤ, negℤ-negℤ}
 use lib.Signed.{mag, _≤ℤ_, leZ-yes}
 
 -- two sums of two, added crosswise
@@ -52,3 +53,12 @@ sum-most (pos a) (pos b) = omega arith
 sum-most (pos a) (negsuc b) = let most = either (ltb a (suc b)) (suc b - suc a) (a - suc b) in omega arith
 sum-most (negsuc a) (pos b) = let most = either (ltb b (suc a)) (suc a - suc b) (b - suc a) in omega arith
 sum-most (negsuc a) (negsuc b) = omega arith
+
+size-either : (t : Bool) (a b : ℕ) → ltb a (suc b) ≡ t → natAbs (cond t (negsuc (suc b - suc a)) (pos (a - suc b))) ≡ (a - suc b) + (suc b - a)
+size-either true a b e = let below = ltb-true a (suc b) e in omega arith
+size-either false a b e = let above = ltb-false a (suc b) e in omega arith
+
+-- a difference's size, its sign ignored
+pub difference-size : (a b : ℕ) → natAbs (pos a -ℤ pos b) ≡ (a - b) + (b - a)
+difference-size a zero = omega arith
+difference-size a (suc b) = size-either (ltb a (suc b)) a b refl

@@ -7,6 +7,7 @@ use mathlib.Core.Option.{bind}
 use Prim.Native.Nat.{ℕ, _-_}
 use Rattle.finite.specs.Sum.{sum, count, every}
 use Rattle.finite.specs.First.{first, firstAfter, firstPair}
+use Rattle.finite.specs.Greatest.{greatest}
 use Rattle.finite.specs.Digits.{digits, numeral}
 use Rattle.finite.specs.Lists.{from}
 use Rattle.galois.specs.Arithmetic.{fieldSum, fieldProduct}
@@ -15,7 +16,7 @@ use Rattle.galois.specs.Levels.{differenceIn, overField, levelDifference}
 use Rattle.counting.specs.Table.{Table, columns, tableOf, shows, times}
 use Rattle.counting.specs.Matrix.{matrixOf, rowDifference, differences}
 use Rattle.counting.specs.Generator.{generatorOf, width, factorColumns, columnsOf}
-use Rattle.counting.specs.Verdict.{deviation, columnDeviation, pairDeviation, columnsFault, pairsFault, tableVerdict, differenceDeviation, matrixVerdict}
+use Rattle.counting.specs.Verdict.{deviation, columnDeviation, pairDeviation, farthest, farthestPair, columnsFault, pairsFault, tableVerdict, differenceDeviation, matrixVerdict}
 use Rattle.counting.specs.GeneratorVerdict.{combinesToZero, dependence, generatorFault, generatorVerdict}
 use Rattle.house.specs.House.{houseTable, houseOf, house101}
 use Rattle.order.specs.Reader.{allowed, numbers}
@@ -116,5 +117,5 @@ examples =
     ∷ []
 
 pub starred : map (λ (e : Example). computed (e .asked)) examples ≡ map (λ (e : Example). e .expected) examples
-unfolding bind flatMap sum count every first firstAfter firstPair fieldSum fieldProduct digits numeral tableOf shows times matrixOf differenceIn overField levelDifference rowDifference differences generatorOf width from factorColumns columnsOf combination deviation columnDeviation pairDeviation columnsFault pairsFault tableVerdict differenceDeviation matrixVerdict combinesToZero dependence generatorFault generatorVerdict houseTable houseOf house101 allowed numbers tableBody matrixBody generatorBody readIngredient readNaming readSum readMerge readSplit readStep readParts readOrder ingredientRange rangeOf fromSources takeStep smallEnough columnElements values fieldTable levelSum rowsOf serving adjoinedTable summedWith sumPlace sumSources sumLevels sumEntry sumValue sumStep sumFits mergePlace mergeSources mergeLevels mergedLevel mergeValue mergeStep mergeFits memberSum memberFaultAt memberFault numbered asTable asMatrix asGenerator listed tableNamed matrixNamed generatorNamed matricesNamed adjoinedNamed proceed provided fieldStep opening operation fits wrongMember applied sized afterSums operate firstStep laterStep laterSteps allSteps rangeRefusal tableRefusal matrixRefusal generatorRefusal ingredientRefusal ingredientsRefusal unless readOutcome outcome
+unfolding bind flatMap sum count every first firstAfter firstPair greatest fieldSum fieldProduct digits numeral tableOf shows times matrixOf differenceIn overField levelDifference rowDifference differences generatorOf width from factorColumns columnsOf combination deviation columnDeviation pairDeviation farthest farthestPair columnsFault pairsFault tableVerdict differenceDeviation matrixVerdict combinesToZero dependence generatorFault generatorVerdict houseTable houseOf house101 allowed numbers tableBody matrixBody generatorBody readIngredient readNaming readSum readMerge readSplit readStep readParts readOrder ingredientRange rangeOf fromSources takeStep smallEnough columnElements values fieldTable levelSum rowsOf serving adjoinedTable summedWith sumPlace sumSources sumLevels sumEntry sumValue sumStep sumFits mergePlace mergeSources mergeLevels mergedLevel mergeValue mergeStep mergeFits memberSum memberFaultAt memberFault numbered asTable asMatrix asGenerator listed tableNamed matrixNamed generatorNamed matricesNamed adjoinedNamed proceed provided fieldStep opening operation fits wrongMember applied sized afterSums operate firstStep laterStep laterSteps allSteps rangeRefusal tableRefusal matrixRefusal generatorRefusal ingredientRefusal ingredientsRefusal unless readOutcome outcome
 starred = refl

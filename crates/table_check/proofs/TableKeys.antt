@@ -8,15 +8,23 @@ use native.Mathlib.Nat.{mul-zero, zero-add, mul-le-mul, div-add-mod'}
 use native.Mathlib.Omega.{arith}
 use lib.Arith.{digits-lt, digits-div, digits-mod}
 use lib.Dec.{eqb}
+use lib.IntN.{ℤ}
 use lib.ListN.{length, getD}
 use Rattle.finite.proofs.Tests.{eqb-and-agree}
+use Rattle.finite.specs.Sum.{count}
 use Rattle.finite.proofs.Counts.{count-ext}
 use Rattle.counting.specs.Table.{Table, tableOf, InRange, shows, times}
 use Rattle.counting.specs.Checkable.{CheckableTable}
-use Rattle.counting.specs.Verdict.{columnDeviation, pairDeviation}
+use Rattle.counting.specs.Verdict.{columnDeviation, pairAt, pairDeviation, farthestPair, namedPair, farthestVerdict}
+use Rattle.counting.specs.declared.verdict.TableFault.{TableFault}
+use Rattle.counting.specs.declared.verdict.TableFault.the-variants.{Pair}
+use Rattle.counting.specs.declared.verdict.TableFinding.the-variants.{Fails}
 use Rattle.counting.proofs.Deviations.{deviation-ext}
+use Rattle.counting.proofs.TableVerdicts.{named-gap}
 use Rattle.tally.specs.Tally.{keysDeviation}
-use Rattle.level_counts.specs.Keys.{Keyed, levelsKey}
+use Rattle.gaps.specs.Gaps.{discrepancy, farthestOff}
+use Rattle.gaps.specs.declared.Discrepancy.{Discrepancy}
+use Rattle.level_counts.specs.Keys.{Keyed, levelsKey, farthestKey}
 
 -- a number of a pair is that pair's alone
 pub pair-number : (x y t v : ℕ) → y < t → eqb (x * t + y) v ≡ (eqb x (v / t) && eqb y (v % t))
@@ -65,8 +73,27 @@ module _ (cells levels : List ℕ) (runs : ℕ) (ok : CheckableTable cells level
         keys-below = λ r l. digits-lt (ok .in-range r c l hc) (ok .in-range r d l hd);
       }
 
+  pair-times : (c d : ℕ) → d < length levels → (v : ℕ)
+      → count runs (λ r. eqb (levelsKey cells (length levels) c (getD levels d 0) d r) v) ≡ times T (pairAt T c d v)
+  unfolding tableOf times shows levelsKey InRange
+  pair-times c d h v = count-ext runs (λ r k. rw (pair-number _ _ _ v (ok .in-range r d k h), and-true))
+
   pub pair-deviation : (c d : ℕ) → d < length levels
       → keysDeviation (getD levels c 0 * getD levels d 0) runs (levelsKey cells (length levels) c (getD levels d 0) d) ≡ pairDeviation T c d
-  unfolding keysDeviation pairDeviation tableOf times shows levelsKey InRange
-  pair-deviation c d h =
-      deviation-ext _ runs (λ v l. count-ext runs (λ r k. rw (pair-number _ _ _ v (ok .in-range r d k h), and-true)))
+  unfolding keysDeviation pairDeviation tableOf
+  pair-deviation c d h = deviation-ext _ runs (λ v l. pair-times c d h v)
+
+  -- what is farthest off, as it is named
+  abbrev pub named : ℕ → ℕ → Discrepancy → TableFault
+  named c d off = Pair (c + 1) (d + 1) (off .value / getD levels d 0) (off .value % getD levels d 0) (off .times)
+
+  pub pair-farthest : (c d : ℕ) → d < length levels → {off : Discrepancy} {g : ℤ} → g ≡ off .gap
+      → off ≡ farthestKey (getD levels c 0 * getD levels d 0) runs (levelsKey cells (length levels) c (getD levels d 0) d)
+      → record { finding = Fails (named c d off); gap = g } ≡ farthestVerdict T c d
+  unfolding farthestKey farthestOff discrepancy farthestPair tableOf
+  pair-farthest c d h {off} off-gap e =
+      let w = farthestPair T c d in
+      ap (λ g. record { finding = Fails (named c d off); gap = g }) off-gap
+      ∙ ap (λ (x : Discrepancy). record { finding = Fails (named c d x); gap = x .gap })
+      (e ∙ ap (farthestOff (getD levels c 0 * getD levels d 0) runs) (λ i v. pair-times c d h v i))
+      ∙ ap (λ g. record { finding = Fails (namedPair T c d w); gap = g }) (sym (named-gap T c d w))

@@ -3,13 +3,15 @@ use counting::verdict::TableFault;
 use counting::verdict::TableFinding;
 use counting::verdict::TableVerdict;
 use finite::pairs::IndexPair;
+use level_counts::farthest_levels;
 use level_counts::levels_deviation;
 use tally::Deviation;
 ghost use mathlib.Core.Path.{_≡_};
 ghost use Prim.Native.Nat.{_<_};
 ghost use Rattle.counting.specs.Table.{tableOf};
 ghost use Rattle.counting.specs.Checkable.{CheckableTable};
-ghost use Rattle.counting.specs.Verdict.{tableFinding, columnsFault, pairsFault, tableVerdict};
+ghost use lib.ListN.{length};
+ghost use Rattle.counting.specs.Verdict.{tableFinding, columnsFault, pairsFault, farthestVerdict, verdictOf, tableVerdict};
 ghost use Rattle.tally.specs.Tally.{Cleared};
 
 // The verdict on the table whose runs lie one after the other in `cells`.
@@ -22,10 +24,9 @@ pub fn check_table(cells: &[u8], levels: &[u8], runs: usize) -> TableVerdict
     match finding {
         TableFinding::Fails(fault) => TableVerdict {
             finding: TableFinding::Fails(fault),
+            gap: 0,
         },
-        TableFinding::Passes => TableVerdict {
-            finding: uneven_pair(cells, levels, runs, &mut counters),
-        },
+        TableFinding::Passes => uneven_pair(cells, levels, runs, &mut counters),
     }
 }
 
@@ -55,10 +56,10 @@ fn uneven_column(cells: &[u8], levels: &[u8], runs: usize, counters: &mut [u16])
 }
 
 // The first two columns with an uneven pair of levels.
-fn uneven_pair(cells: &[u8], levels: &[u8], runs: usize, counters: &mut [u16]) -> TableFinding
+fn uneven_pair(cells: &[u8], levels: &[u8], runs: usize, counters: &mut [u16]) -> TableVerdict
     requires { ⌜ CheckableTable (now cells) (now levels) runs ⌝ }
     requires { ⌜ Cleared (now counters) ⌝ }
-    ensures { λ r. ⌜ r ≡ tableFinding (pairsFault (tableOf (now (cells .entry)) (now (levels .entry)) runs)) ⌝ }
+    ensures { λ r. ⌜ r ≡ verdictOf (tableOf (now (cells .entry)) (now (levels .entry)) runs) (pairsFault (tableOf (now (cells .entry)) (now (levels .entry)) runs)) ⌝ }
 {
     let mut pair = IndexPair::start();
     while pair.second < levels.len() {
@@ -67,18 +68,42 @@ fn uneven_pair(cells: &[u8], levels: &[u8], runs: usize, counters: &mut [u16]) -
         let s = levels[first] as usize;
         let t = levels[second] as usize;
         match levels_deviation(cells, runs, levels.len(), first, t, second, s * t, counters) {
-            Deviation::At { value, times } => {
-                return TableFinding::Fails(TableFault::Pair {
-                    first: first + 1,
-                    second: second + 1,
-                    first_level: value / t,
-                    second_level: value % t,
-                    times,
-                });
+            Deviation::At { value: _, times: _ } => {
+                return farthest_pair(cells, levels, runs, first, second);
             }
             Deviation::Nowhere => {}
         }
         pair = pair.next(levels.len());
     }
-    TableFinding::Passes
+    TableVerdict {
+        finding: TableFinding::Passes,
+        gap: 0,
+    }
+}
+
+// The verdict on two columns with an uneven pair of levels: of their pairs it names the one that is farthest off (02, K5).
+fn farthest_pair(
+    cells: &[u8],
+    levels: &[u8],
+    runs: usize,
+    first: usize,
+    second: usize,
+) -> TableVerdict
+    requires { ⌜ CheckableTable (now cells) (now levels) runs ⌝ }
+    requires { ⌜ (first < second) × (second < length (now levels)) ⌝ }
+    ensures { λ r. ⌜ r ≡ farthestVerdict (tableOf (now (cells .entry)) (now (levels .entry)) runs) first second ⌝ }
+{
+    let s = levels[first] as usize;
+    let t = levels[second] as usize;
+    let farthest = farthest_levels(cells, runs, levels.len(), first, t, second, s * t);
+    TableVerdict {
+        finding: TableFinding::Fails(TableFault::Pair {
+            first: first + 1,
+            second: second + 1,
+            first_level: farthest.value / t,
+            second_level: farthest.value % t,
+            times: farthest.times,
+        }),
+        gap: farthest.gap,
+    }
 }

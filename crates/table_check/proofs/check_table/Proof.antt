@@ -1,8 +1,6 @@
 -- `check_table` meets its contract: columns first, and pairs where no column fails.
 -- Assumes nothing.
-use mathlib.Core.Path.{refl, sym, _∙_, ap}
-use Rattle.counting.specs.declared.verdict.TableFinding.{TableFinding}
-use Rattle.counting.specs.declared.verdict.TableVerdict.{TableVerdict}
+use mathlib.Core.Path.{refl, sym, _∙_}
 use Rattle.counting.proofs.Deviations.{fails-some, passes-none}
 use Rattle.counting.proofs.TableVerdicts.{verdict-column, verdict-pairs}
 use borrow.Author.Needs.{needs}
@@ -34,11 +32,8 @@ returns c =
 
 returns-2 : tie.Need-returns-2
 returns-2 c =
-    ap verdict (c .before .uneven-pair .ensures)
+    c .before .uneven-pair .ensures
     ∙ verdict-pairs _ (passes-none _ (sym (c .before .before .before .enum-told .given .1) ∙ c .before .before .before .before .before .before .uneven-column .ensures .0))
-  where
-    verdict : TableFinding → TableVerdict
-    verdict f = record { finding = f }
 
 pub check-table-spec : {M : Type 1} → statement M
 check-table-spec =

@@ -9,7 +9,7 @@ use lib.ListN.{length}
 use Rattle.finite.proofs.Fits.{product-fits}
 use Rattle.finite.proofs.PairOrder.{Searched, searched-start, searched-next, searched-none, searched-at, left, left-falls}
 use Rattle.counting.specs.Table.{tableOf}
-use Rattle.counting.specs.Verdict.{pairFault, pairsFault, tableFinding}
+use Rattle.counting.specs.Verdict.{pairFault, pairsFault, verdictOf}
 use Rattle.tally.specs.Tally.{Cleared}
 use Rattle.tally.proofs.Tallies.{at-some, nowhere-none}
 use Rattle.table_check.proofs.TableKeys.{pair-keyed, pair-deviation}
@@ -54,20 +54,13 @@ levels-deviation-requires c κs =
     let taken = c .before .before .before .if1 .taken in
     (pair-keyed _ _ _ (c .before .before .before .before .before .before .before .before .before .before .pre .0) _ _ (lt-trans (l .inv .2 .ordered) taken) taken, l .inv .1)
 
-enum-known-value : tie.Need-enum-known-value Inv-loop μ-loop
-enum-known-value c = search needs
+enum-told : tie.Need-enum-told Inv-loop μ-loop
+enum-told c = search needs
 
-add-t21 : tie.Need-add-t21 Inv-loop μ-loop
-add-t21 c = search needs
-
-add-t22 : tie.Need-add-t22 Inv-loop μ-loop
-add-t22 c = search needs
-
-div-t23 : tie.Need-div-t23 Inv-loop μ-loop
-div-t23 c = omega (arith, c .before .before .before .before .before .before .before .before .before .before .before .before .before .before .before .before .pre .0 .levels-from (c .before .before .before .before .before .before .before .before .before .before .before .loop .pair .second) (c .before .before .before .before .before .before .before .before .before .if1 .taken))
-
-rem-t24 : tie.Need-rem-t24 Inv-loop μ-loop
-rem-t24 c = omega (arith, c .before .before .before .before .before .before .before .before .before .before .before .before .before .before .before .before .pre .0 .levels-from (c .before .before .before .before .before .before .before .before .before .before .before .loop .pair .second) (c .before .before .before .before .before .before .before .before .before .if1 .taken))
+farthest-pair-requires : tie.Need-farthest-pair-requires Inv-loop μ-loop
+farthest-pair-requires c κs =
+    let l = c .before .before .before .before .before .before .before .before .before .before .loop in
+    (c .before .before .before .before .before .before .before .before .before .before .before .before .before .before .before .pre .0, (l .inv .2 .ordered, c .before .before .before .before .before .before .before .before .if1 .taken))
 
 same-length : tie.Need-same-length Inv-loop μ-loop
 same-length c = search needs
@@ -78,11 +71,12 @@ returns c =
     let l = c .before .before .before .before .before .before .before .before .before .before .before .loop in
     let taken = c .before .before .before .before .before .before .before .before .before .if1 .taken in
     let found = c .before .before .before .before .before .levels-deviation .ensures .0 in
-    sym (ap tableFinding (searched-at _ _ (l .pair) _ (l .inv .2) taken
-    (ap (Option·map _) (sym (pair-deviation _ _ _ (c .before .before .before .before .before .before .before .before .before .before .before .before .before .before .before .before .pre .0) _ _ taken) ∙ at-some _ _ _ (sym (c .before .value .given .1) ∙ found)))))
+    c .farthest-pair .ensures
+    ∙ sym (ap (verdictOf _) (searched-at _ _ (l .pair) _ (l .inv .2) taken
+    (ap (Option·map _) (sym (pair-deviation _ _ _ (c .before .before .before .before .before .before .before .before .before .before .before .before .before .before .before .before .pre .0) _ _ taken) ∙ at-some _ _ _ (sym (c .before .enum-told .given .1) ∙ found)))))
 
-enum-told : tie.Need-enum-told Inv-loop μ-loop
-enum-told c = search needs
+enum-told-2 : tie.Need-enum-told-2 Inv-loop μ-loop
+enum-told-2 c = search needs
 
 next-requires : tie.Need-next-requires Inv-loop μ-loop
 next-requires c κs = (c .before .before .before .before .before .before .before .before .before .before .loop .inv .2 .ordered, c .before .before .before .before .before .before .before .before .if1 .taken)
@@ -96,9 +90,9 @@ loop-again c =
     let taken = c .before .before .before .before .before .before .before .before .before .if1 .taken in
     let called = c .before .before .before .before .before .levels-deviation in (
       called .kept .1 .1 .1 .1 .1 .1 .1 .0 ∙ l .inv .0,
-      called .ensures .1 (c .before .enum-told .given .1),
+      called .ensures .1 (c .before .enum-told2 .given .1),
       rw (c .next .ensures) (searched-next _ _ (l .pair) (l .inv .2) taken
-          (ap (Option·map _) (sym (pair-deviation _ _ _ (c .before .before .before .before .before .before .before .before .before .before .before .before .before .before .before .before .pre .0) _ _ taken) ∙ nowhere-none _ (sym (c .before .enum-told .given .1) ∙ called .ensures .0)))),
+          (ap (Option·map _) (sym (pair-deviation _ _ _ (c .before .before .before .before .before .before .before .before .before .before .before .before .before .before .before .before .pre .0) _ _ taken) ∙ nowhere-none _ (sym (c .before .enum-told2 .given .1) ∙ called .ensures .0)))),
     )
 
 same-length-2 : tie.Need-same-length-2 Inv-loop μ-loop
@@ -106,7 +100,7 @@ same-length-2 c = search needs
 
 returns-2 : tie.Need-returns-2 Inv-loop μ-loop
 unfolding pairsFault tableOf
-returns-2 c = sym (ap tableFinding (searched-none _ _ _ (c .before .before .loop .inv .2) (c .if1 .left)))
+returns-2 c = sym (ap (verdictOf _) (searched-none _ _ _ (c .before .before .loop .inv .2) (c .if1 .left)))
 
 pub uneven-pair-spec : {M : Type 1} → statement M
 uneven-pair-spec =
@@ -122,14 +116,11 @@ uneven-pair-spec =
     cast-t
     mul-levels-deviation
     levels-deviation-requires
-    enum-known-value
-    add-t21
-    add-t22
-    div-t23
-    rem-t24
+    enum-told
+    farthest-pair-requires
     same-length
     returns
-    enum-told
+    enum-told-2
     next-requires
     loop-less
     loop-again
