@@ -7,7 +7,7 @@ use crate::{refused, Answer};
 /// Refuses the ingredient of this number if it does not pass.
 pub fn check(ingredient_number: usize, ingredient: &Ingredient) -> Result<(), Answer> {
     match ingredient {
-        Ingredient::Table(table) => check_table(ingredient_number, table),
+        Ingredient::Table(table) => check_table(ingredient_number, table).verdict,
         Ingredient::Matrix(matrix) => check_matrix(ingredient_number, matrix),
         Ingredient::Generator(generator) => check_generator(ingredient_number, generator),
     }
@@ -24,32 +24,86 @@ fn pairs(count: usize) -> Vec<(usize, usize)> {
     found
 }
 
-fn check_table(ingredient_number: usize, table: &Table) -> Result<(), Answer> {
+/// What the check of a table answers.
+#[derive(Clone, Debug, PartialEq, Eq)]
+pub struct TableCheck {
+    /// That the table passes, or why it does not.
+    pub verdict: Result<(), Answer>,
+    /// s × t × times - N of the pair of levels that refusal 5 names, below zero where the pair is short
+    /// and above where it is over; 0 in every other case. 02, K5.
+    pub gap: i64,
+}
+
+impl TableCheck {
+    pub(crate) fn refused(refusal: Answer) -> TableCheck {
+        TableCheck {
+            verdict: Err(refusal),
+            gap: 0,
+        }
+    }
+}
+
+/// Question 4, of a table that is the ingredient of this number.
+pub fn check_table(ingredient_number: usize, table: &Table) -> TableCheck {
     let n = table.runs.len();
     for (a, &s) in table.levels.iter().enumerate() {
         for x in 0..s {
             let times = table.runs.iter().filter(|run| run[a] == x).count();
             if s * times != n {
-                return Err(refused(4, &[ingredient_number, a + 1, x, times]));
+                return TableCheck::refused(refused(4, &[ingredient_number, a + 1, x, times]));
             }
         }
     }
     for (a, b) in pairs(table.levels.len()) {
-        let (s, t) = (table.levels[a], table.levels[b]);
-        for x in 0..s {
-            for y in 0..t {
-                let times = table
-                    .runs
-                    .iter()
-                    .filter(|run| run[a] == x && run[b] == y)
-                    .count();
-                if s * t * times != n {
-                    return Err(refused(5, &[ingredient_number, a + 1, b + 1, x, y, times]));
-                }
-            }
+        if let Some(LevelPair { x, y, times, gap }) = farthest_pair(table, a, b) {
+            let refusal = refused(5, &[ingredient_number, a + 1, b + 1, x, y, times]);
+            return TableCheck {
+                verdict: Err(refusal),
+                gap,
+            };
         }
     }
-    Ok(())
+    TableCheck {
+        verdict: Ok(()),
+        gap: 0,
+    }
+}
+
+/// A pair of levels of two columns: in how many runs it stands, and how far that is from even.
+#[derive(Clone, Copy, Debug, PartialEq, Eq)]
+pub struct LevelPair {
+    pub x: usize,
+    pub y: usize,
+    pub times: usize,
+    /// s × t × times - N.
+    pub gap: i64,
+}
+
+/// The pairs of levels of columns a and b, both counted from 0: 0-0, 0-1, .., then 1-0, and so on.
+pub fn level_pairs(table: &Table, a: usize, b: usize) -> impl Iterator<Item = LevelPair> + '_ {
+    let n = table.runs.len() as i64;
+    let (s, t) = (table.levels[a], table.levels[b]);
+    let pair = move |x: usize, y: usize| {
+        let is_pair = |run: &&Vec<usize>| run[a] == x && run[b] == y;
+        let times = table.runs.iter().filter(is_pair).count();
+        let gap = (s * t * times) as i64 - n;
+        LevelPair { x, y, times, gap }
+    };
+    (0..s).flat_map(move |x| (0..t).map(move |y| pair(x, y)))
+}
+
+/// The pair of levels whose gap is largest in size, sign ignored, and the first of them among equals.
+/// There is none where every gap is 0.
+fn farthest_pair(table: &Table, a: usize, b: usize) -> Option<LevelPair> {
+    let mut farthest = None;
+    let mut size = 0;
+    for pair in level_pairs(table, a, b) {
+        if pair.gap.abs() > size {
+            size = pair.gap.abs();
+            farthest = Some(pair);
+        }
+    }
+    farthest
 }
 
 fn check_matrix(ingredient_number: usize, matrix: &Matrix) -> Result<(), Answer> {

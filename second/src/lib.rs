@@ -1,4 +1,4 @@
-//! A second implementation of the planner of document 01 with requests K1 to K4 of document 02,
+//! A second implementation of the planner of document 01 with requests K1 to K5 of document 02,
 //! written from these documents alone and as plainly as possible, to be compared with the proved one.
 //! "01" and "02" in comments are those documents.
 //!
@@ -8,22 +8,29 @@
 //! - `field`: sums and products of the seven fields, and the sum that goes with a matrix;
 //! - `text`: words in, printed runs out;
 //! - `pages`: a sheet's pages on paper;
+//! - `checker`: the check of one table by itself;
 //! - `maker`: random orders for the vectors and the tests; the planner does not use it;
 //! - `records`: orders with their answers as stored texts; the planner does not use it;
-//! - `page_calls`: calls for pages with their answers, stored and random; the planner does not use it.
+//! - `gap_tables`: tables that show which pair refusal 5 names; the planner does not use it;
+//! - `page_calls`: calls for pages with their answers, stored and random; the planner does not use it;
+//! - `table_calls`: the same for the check of a table.
 
 #![forbid(unsafe_code)]
 
+pub mod checker;
 mod counting;
 pub mod field;
+pub mod gap_tables;
 pub mod maker;
 pub mod order;
 pub mod page_calls;
 pub mod pages;
 pub mod records;
 mod steps;
+pub mod table_calls;
 mod text;
 
+pub use counting::{check_table, level_pairs, LevelPair, TableCheck};
 pub use steps::{check_members, MemberCheck};
 pub use text::{print, scan};
 

@@ -3,11 +3,17 @@
 
 mod draft;
 mod right;
+mod uneven;
 mod wrong;
 
 use crate::{plan, Answer, Lengths, LEAST};
 use draft::*;
+pub(crate) use draft::{plain, table_numbers};
+pub(crate) use right::passing_table;
 use right::*;
+pub use uneven::make_uneven;
+pub(crate) use uneven::uneven_table;
+pub(crate) use wrong::damage;
 use wrong::*;
 
 /// The generator splitmix64.

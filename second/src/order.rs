@@ -55,14 +55,7 @@ pub struct Order {
 
 /// The whole list as an order, or the place that question 2 names.
 pub fn read(list: &[u16]) -> Result<Order, usize> {
-    if list.len() > 32_768 {
-        return Err(32_768);
-    }
-    let mut reader = Reader {
-        list,
-        place: 0,
-        entries: Vec::new(),
-    };
+    let mut reader = Reader::of(list)?;
 
     let q = reader.number(|q| q <= 32)?;
     let mut ingredients = Vec::new();
@@ -76,14 +69,22 @@ pub fn read(list: &[u16]) -> Result<Order, usize> {
         steps.push(reader.step()?);
     }
 
-    if reader.place < list.len() {
-        return Err(reader.place);
-    }
+    reader.end()?;
     Ok(Order {
         ingredients,
         steps,
         entries: reader.entries,
     })
+}
+
+/// The whole list as one table, written as an ingredient is, with its entries; or the place that
+/// question 2 would name, counted in this list.
+pub fn read_table(list: &[u16]) -> Result<(Table, Vec<Entry>), usize> {
+    let mut reader = Reader::of(list)?;
+    reader.number(|kind| kind == 1)?;
+    let table = reader.table()?;
+    reader.end()?;
+    Ok((table, reader.entries))
 }
 
 struct Reader<'a> {
@@ -93,7 +94,27 @@ struct Reader<'a> {
     entries: Vec<Entry>,
 }
 
-impl Reader<'_> {
+impl<'a> Reader<'a> {
+    /// At the beginning of a list, unless the list is too long, which is refused before any reading.
+    fn of(list: &'a [u16]) -> Result<Reader<'a>, usize> {
+        if list.len() > 32_768 {
+            return Err(32_768);
+        }
+        Ok(Reader {
+            list,
+            place: 0,
+            entries: Vec::new(),
+        })
+    }
+
+    /// Nothing may be left over.
+    fn end(&self) -> Result<(), usize> {
+        if self.place < self.list.len() {
+            return Err(self.place);
+        }
+        Ok(())
+    }
+
     /// The next number if it is allowed. Otherwise its place, which is the length if there is none.
     fn number(&mut self, allowed: impl Fn(usize) -> bool) -> Result<usize, usize> {
         if self.place == self.list.len() {
@@ -134,13 +155,13 @@ impl Reader<'_> {
 
     fn ingredient(&mut self) -> Result<Ingredient, usize> {
         match self.number(|kind| (1..=3).contains(&kind))? {
-            1 => self.table(),
+            1 => Ok(Ingredient::Table(self.table()?)),
             2 => self.matrix(),
             _ => self.generator(),
         }
     }
 
-    fn table(&mut self) -> Result<Ingredient, usize> {
+    fn table(&mut self) -> Result<Table, usize> {
         let rows = self.number(|rows| (1..=512).contains(&rows))?;
         let columns = self.number(|columns| (1..=128).contains(&columns))?;
         let mut levels = Vec::new();
@@ -148,7 +169,7 @@ impl Reader<'_> {
             levels.push(self.number(|level| (2..=64).contains(&level))?);
         }
         let runs = self.rows(rows, &levels)?;
-        Ok(Ingredient::Table(Table { levels, runs }))
+        Ok(Table { levels, runs })
     }
 
     fn matrix(&mut self) -> Result<Ingredient, usize> {

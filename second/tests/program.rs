@@ -1,6 +1,8 @@
 //! The programs, from standard input to standard output.
 
+use second::checker::print_check;
 use second::pages::print_pages;
+use second::table_calls;
 use std::io::Write;
 use std::process::{Command, Stdio};
 
@@ -10,6 +12,10 @@ fn printed(input: &[u8]) -> String {
 
 fn printed_pages(arguments: &[&str], input: &[u8]) -> String {
     output(env!("CARGO_BIN_EXE_pages"), arguments, input)
+}
+
+fn printed_check(input: &[u8]) -> String {
+    output(env!("CARGO_BIN_EXE_checker"), &[], input)
 }
 
 fn output(program: &str, arguments: &[&str], input: &[u8]) -> String {
@@ -76,4 +82,28 @@ fn prints_refusals_of_pages() {
         );
     }
     assert_eq!(printed_pages(&[], b""), "refused 2 0 0 0 0 0 0\n");
+}
+
+#[test]
+fn prints_checks() {
+    assert_eq!(
+        printed_check(b"1 4 2 2 2 0 0 0 0 1 1 1 1\n"),
+        "refused 5 1 1 2 0 0 2\ngap 4\n"
+    );
+    for text in ["", "1 2 1 2 0 1", "1 2 1 2 0 2", "1 2 2 2 2 0 1 1 0", "2 x"] {
+        let text = text.as_bytes();
+        assert_eq!(printed_check(text), print_check(text));
+    }
+}
+
+#[test]
+fn prints_answers_of_table_calls() {
+    let calls = b"0\n5 1 2 1 2 0\n6 1 2 1 2 0 1\n9 1 2 2 2 2 0 1 1 0\n";
+    let printed = output(env!("CARGO_BIN_EXE_table_answers"), &[], calls);
+    assert_eq!(
+        printed,
+        "2 0 0 0 0 0 0 0\n2 5 0 0 0 0 0 0\n0 0 0 0 0 0 0 0\n5 1 1 2 0 0 0 -2\n"
+    );
+    let stored = output(env!("CARGO_BIN_EXE_table_calls"), &[], b"");
+    assert_eq!(stored, table_calls::stored());
 }

@@ -1,8 +1,10 @@
 //! The stored texts of records: they are what is made here, and they are well formed.
 
+mod common;
+use common::GAPS;
 use second::maker::MOST;
 use second::order::{self, Ingredient, Step};
-use second::{plan_text, print, records, scan, Lengths, LEAST};
+use second::{level_pairs, plan_text, print, records, scan, Lengths, LevelPair, LEAST};
 use std::collections::{BTreeMap, BTreeSet};
 use std::path::Path;
 
@@ -230,6 +232,40 @@ fn kind_of_matrix(record: &Record) -> String {
     }
 }
 
+/// Of an order that is refused as 5: whether the pair is short or over, whether it is the lowest
+/// uneven one of its columns, and whether another is as far off.
+fn kinds_of_pair(record: &Record) -> Vec<String> {
+    let refusal = numbers(record.answer[0].strip_prefix("refused ").unwrap());
+    let &[_, i, a, b, x, y, _] = refusal.as_slice() else {
+        panic!("{refusal:?}")
+    };
+    let Ingredient::Table(table) = &order_of(record).ingredients[i - 1] else {
+        panic!("{}", record.order)
+    };
+    let uneven: Vec<LevelPair> = level_pairs(table, a - 1, b - 1)
+        .filter(|pair| pair.gap != 0)
+        .collect();
+    let is_named = |pair: &LevelPair| (pair.x, pair.y) == (x, y);
+    let named = uneven.iter().position(is_named).unwrap();
+    let gap = uneven[named].gap;
+    let others = |gap: i64| uneven.iter().filter(|pair| pair.gap == gap).count();
+    let sign = if gap < 0 { "short" } else { "over" };
+    let turn = if named == 0 { "lowest" } else { "not lowest" };
+    let equals = match (others(gap), others(-gap)) {
+        (1, 0) => "alone",
+        (_, 0) => "equals of one sign",
+        _ => "equals of both signs",
+    };
+    let mut kinds = vec![format!("5 {sign} {turn}"), format!("5 {sign} {equals}")];
+    if (a, b) != (1, 2) {
+        kinds.push("5 not of columns 1 and 2".to_string());
+    }
+    if refusal[6] == 0 {
+        kinds.push("5 times 0".to_string());
+    }
+    kinds
+}
+
 fn refusals() -> impl Iterator<Item = String> {
     (1..=11).map(|number| format!("refused {number}"))
 }
@@ -288,6 +324,30 @@ fn merges_are_answered_as_their_names_say() {
     }
 }
 
+/// Each table is the only ingredient, or the last of three.
+#[test]
+fn uneven_tables_are_answered_as_they_are_checked() {
+    let text = stored("examples");
+    let records = read(&text);
+    let answer = |name: &str| {
+        let named = |record: &&Record| record.name == Some(&format!("gaps: {name}"));
+        records.iter().find(named).expect(name).answer[0]
+    };
+    for (name, [number, details @ .., _]) in GAPS {
+        let details: Vec<String> = details.iter().map(i64::to_string).collect();
+        let refused = format!("refused {number} {}", details.join(" "));
+        assert_eq!(answer(name), refused, "{name}");
+    }
+    assert_eq!(
+        answer("2 runs, equal columns, as ingredient 3"),
+        "refused 5 3 1 2 0 0 1"
+    );
+    assert_eq!(
+        answer("512 runs of 63 columns, the last two equal"),
+        "refused 5 1 62 63 0 0 256"
+    );
+}
+
 #[test]
 fn vectors_reach_everything_often() {
     let text = stored("vectors");
@@ -299,6 +359,11 @@ fn vectors_reach_everything_often() {
             *times.entry(kind_of_spare(record)).or_default() += 1;
             for step in kinds_of_steps(&order_of(record)) {
                 *times.entry(step).or_default() += 1;
+            }
+        }
+        if kind == "refused 5" {
+            for kind in kinds_of_pair(record) {
+                *times.entry(kind).or_default() += 1;
             }
         }
         if kind == "refused 6" {
@@ -313,13 +378,21 @@ fn vectors_reach_everything_often() {
     wanted.extend([2, 3, 4, 5, 7, 8, 9].map(|s| format!("FIELD {s}")));
     wanted.extend([2, 3, 5, 7].map(|p| format!("MERGE {p}")));
     wanted.extend([4, 8, 9].map(|p| format!("SUM {p}")));
+    for sign in ["short", "over"] {
+        wanted.push(format!("5 {sign} lowest"));
+        wanted.push(format!("5 {sign} not lowest"));
+        wanted.push(format!("5 {sign} equals of both signs"));
+    }
+    wanted.push("5 not of columns 1 and 2".to_string());
+    wanted.push("5 times 0".to_string());
     for kind in wanted {
         assert!(times.get(&kind) > Some(&40), "{kind}: {times:?}");
     }
-    for p in [4, 8, 9] {
-        let kind = format!("refused 6 with p = {p}");
-        assert!(times.get(&kind) > Some(&10), "{kind}: {times:?}");
+    let alone = ["short", "over"].map(|sign| format!("5 {sign} alone"));
+    let with_p = [4, 8, 9].map(|p| format!("refused 6 with p = {p}"));
+    for kind in alone.iter().chain(&with_p) {
+        assert!(times.get(kind) > Some(&10), "{kind}: {times:?}");
     }
     assert!(vectors.len() > 2_000);
-    assert!(times["filled"] > vectors.len() * 3 / 10);
+    assert!(times["filled"] > vectors.len() / 4);
 }

@@ -127,7 +127,7 @@ fn question_4_tables() {
         answer("1 1 4 3 2 2 2 0 0 1 0 1 0 1 0 1 1 1 0 1 1 1"),
         refusal(5, &[1, 2, 3, 0, 0, 0])
     );
-    // The first column's level leads: 0-0 and 0-1 are short or over, before 1-0.
+    // Four pairs are as far off: 1-0 is the lowest, and the first column's level leads.
     assert_eq!(
         answer("1 1 6 2 3 2 0 0 0 1 1 1 1 1 2 0 2 0 1 1 1"),
         refusal(5, &[1, 1, 2, 1, 0, 0])
@@ -136,6 +136,11 @@ fn question_4_tables() {
     assert_eq!(
         answer("1 1 6 2 2 6 0 0 0 1 0 2 1 3 1 4 1 5 1 1 1"),
         refusal(5, &[1, 1, 2, 0, 0, 1])
+    );
+    // 0-0 is the first that fails, and 1-2 is farther off (02, K5): 2, 1, 0, then 0, 0, 3, then 1, 2, 0.
+    assert_eq!(
+        answer("1 1 9 2 3 3 0 0 0 0 0 1 1 2 1 2 1 2 2 0 2 1 2 1 1 1 1"),
+        refusal(5, &[1, 1, 2, 1, 2, 3])
     );
     // Ingredients in turn, used or not.
     assert_eq!(

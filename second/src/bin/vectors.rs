@@ -3,8 +3,8 @@
 #![forbid(unsafe_code)]
 
 use second::maker::Call;
-use second::order::{self, Ingredient, Step};
-use second::{records, Answer};
+use second::order::{self, Ingredient, Step, Table};
+use second::{level_pairs, records, Answer, LevelPair};
 use std::collections::BTreeMap;
 use std::io::{stdout, Write};
 
@@ -21,6 +21,7 @@ fn main() -> std::io::Result<()> {
 #[derive(Default)]
 struct Summary {
     answers: BTreeMap<u8, usize>,
+    refusing_pairs: BTreeMap<String, usize>,
     refusing_matrices: BTreeMap<usize, usize>,
     steps: BTreeMap<&'static str, [usize; 2]>,
     refusing_steps: BTreeMap<(u8, &'static str), usize>,
@@ -56,6 +57,11 @@ impl Summary {
         for ingredient in &order.ingredients[..checked] {
             if let Ingredient::Generator(generator) = ingredient {
                 count(&mut self.fields_checked, generator.s, filled);
+            }
+        }
+        if let (5, Some(Ingredient::Table(table))) = (number, order.ingredients[..checked].last()) {
+            for kind in kinds_of_pair(table, &details.map(|detail| detail as usize)) {
+                *self.refusing_pairs.entry(kind).or_default() += 1;
             }
         }
         if let (6, Some(Ingredient::Matrix(matrix))) = (number, order.ingredients[..checked].last())
@@ -112,6 +118,10 @@ impl Summary {
             };
             eprintln!("  {name}: {times}");
         }
+        eprintln!("pairs that refusal 5 names:");
+        for (kind, times) in &self.refusing_pairs {
+            eprintln!("  {kind}: {times}");
+        }
         eprintln!("matrices refused as 6, by p:");
         for (p, times) in &self.refusing_matrices {
             eprintln!("  {p}: {times}");
@@ -133,6 +143,38 @@ impl Summary {
         print_sizes("numbers in a list", &self.numbers_in_list);
         print_sizes("cells of a filled table", &self.cells_in_filled);
     }
+}
+
+/// What is to be said of the pair of levels that refusal 5 names, by its details.
+fn kinds_of_pair(table: &Table, details: &[usize; 6]) -> Vec<String> {
+    let &[_, a, b, x, y, times] = details;
+    let uneven: Vec<LevelPair> = level_pairs(table, a - 1, b - 1)
+        .filter(|pair| pair.gap != 0)
+        .collect();
+    let is_named = |pair: &&LevelPair| (pair.x, pair.y) == (x, y);
+    let named = uneven.iter().find(is_named).expect("it is uneven");
+    let equals = |gap: i64| uneven.iter().any(|pair| pair.gap == gap && pair != named);
+    let over_or_short = if named.gap > 0 { "over" } else { "short" };
+    let mut kinds = vec![over_or_short];
+    kinds.push(match uneven[0] == *named {
+        true => "the lowest uneven pair",
+        false => "not the lowest uneven pair",
+    });
+    kinds.push(match (equals(named.gap), equals(-named.gap)) {
+        (_, true) => "as far off as one of the other sign",
+        (true, false) => "as far off as one of the same sign alone",
+        (false, false) => "farther off than every other",
+    });
+    if times == 0 {
+        kinds.push("times 0");
+    }
+    if (a, b) != (1, 2) {
+        kinds.push("not of columns 1 and 2");
+    }
+    let mut kinds: Vec<String> = kinds.into_iter().map(str::to_string).collect();
+    let both = format!("{}, {}", kinds[0], kinds[1]);
+    kinds.push(both);
+    kinds
 }
 
 fn count<Key: Ord>(counts: &mut BTreeMap<Key, [usize; 2]>, key: Key, filled: usize) {

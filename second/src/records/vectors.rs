@@ -1,7 +1,8 @@
-//! The vectors: random orders, and two orders with each number at the edges of its limits.
+//! The vectors: random orders, two orders with each number at the edges of its limits, and random orders
+//! with an uneven table.
 
 use super::Records;
-use crate::maker::{edge_calls, make, Call};
+use crate::maker::{edge_calls, make, make_uneven, Call};
 use crate::text::spaced;
 use crate::Answer;
 
@@ -12,12 +13,17 @@ const ABOUT: &str = "Random orders, most of them nearly right, and what the seco
 const SEED: u64 = 20_260_101;
 const RANDOM: u64 = 3_000;
 
+/// The same for those with an uneven table. They came later, and stand at the end.
+const UNEVEN_SEED: u64 = 20_260_501;
+const UNEVEN: u64 = 400;
+
 /// The text of the vectors. Each call is given to `note` with its answer, so that a summary need
 /// not plan it again.
 pub fn vectors(mut note: impl FnMut(&Call, &Answer)) -> String {
     let mut records = Records::headed(ABOUT);
-    let random = (0..RANDOM).map(|index| make(SEED + index));
-    for call in random.chain(edge_calls()) {
+    let random = (SEED..SEED + RANDOM).map(make);
+    let uneven = (UNEVEN_SEED..UNEVEN_SEED + UNEVEN).map(make_uneven);
+    for call in random.chain(edge_calls()).chain(uneven) {
         let answer = records.record(&spaced(&call.list), call.lengths);
         note(&call, &answer);
     }

@@ -5,6 +5,96 @@
 use second::order::{read, Step};
 use second::{plan, Answer};
 
+/// What the tables of `gap_tables` come to, counted by hand: number, six details and gap.
+pub const GAPS: [(&str, [i64; 8]); 26] = [
+    ("2 runs, equal columns", [5, 1, 1, 2, 0, 0, 1, 2]),
+    ("4 runs, equal columns", [5, 1, 1, 2, 0, 0, 2, 4]),
+    ("4 runs, opposite columns", [5, 1, 1, 2, 0, 0, 0, -4]),
+    (
+        "6 runs, 2 levels each, short by half a run",
+        [5, 1, 1, 2, 0, 0, 1, -2],
+    ),
+    (
+        "6 runs, 2 levels each, over by half a run",
+        [5, 1, 1, 2, 0, 0, 2, 2],
+    ),
+    (
+        "27 runs, a short pair before an over one as far off",
+        [5, 1, 1, 2, 1, 0, 1, -18],
+    ),
+    (
+        "27 runs, an over pair before a short one as far off",
+        [5, 1, 1, 2, 1, 0, 5, 18],
+    ),
+    (
+        "27 runs, three short pairs as far off, the first column's level leading",
+        [5, 1, 1, 2, 0, 2, 1, -18],
+    ),
+    (
+        "27 runs, the last pair short and farthest off",
+        [5, 1, 1, 2, 2, 2, 1, -18],
+    ),
+    (
+        "18 runs, the last pair over and farthest off",
+        [5, 1, 1, 2, 2, 2, 4, 18],
+    ),
+    ("18 runs, times 0 farthest off", [5, 1, 1, 2, 2, 1, 0, -18]),
+    (
+        "9 runs, times 0 before an over pair as far off",
+        [5, 1, 1, 2, 0, 1, 0, -9],
+    ),
+    (
+        "9 runs, an over pair before times 0 as far off",
+        [5, 1, 1, 2, 0, 1, 2, 9],
+    ),
+    ("12 runs, 2 and 3 levels", [5, 1, 1, 2, 0, 2, 4, 12]),
+    ("12 runs, 3 and 2 levels", [5, 1, 1, 2, 2, 0, 0, -12]),
+    (
+        "12 runs, 4 and 6 levels, one pair twice",
+        [5, 1, 1, 2, 2, 3, 2, 36],
+    ),
+    (
+        "12 runs, 4 and 6 levels, no pair twice",
+        [5, 1, 1, 2, 0, 0, 0, -12],
+    ),
+    (
+        "512 runs, 64 levels each, equal columns",
+        [5, 1, 1, 2, 0, 0, 8, 32_256],
+    ),
+    (
+        "512 runs, 64 levels each, each pair once or never",
+        [5, 1, 1, 2, 0, 1, 1, 3_584],
+    ),
+    (
+        "512 runs, 64 levels each, the last pair farthest off",
+        [5, 1, 1, 2, 63, 63, 8, 32_256],
+    ),
+    (
+        "512 runs, 2 levels each, opposite columns",
+        [5, 1, 1, 2, 0, 0, 0, -512],
+    ),
+    (
+        "18 runs, columns 1 and 2 a little, 1 and 3 much",
+        [5, 1, 1, 2, 0, 1, 3, 9],
+    ),
+    (
+        "18 runs, columns 1 and 2 even, 1 and 3 a little, 2 and 3 much",
+        [5, 1, 1, 3, 1, 0, 0, -18],
+    ),
+    (
+        "4 runs, columns 1 and 2 equal, column 3 uneven",
+        [4, 1, 3, 0, 1, 0, 0, 0],
+    ),
+    (
+        "64 runs of 63 columns, the last two equal",
+        [5, 1, 62, 63, 0, 0, 32, 64],
+    ),
+    (
+        "81 runs of 29 columns, the last two uneven",
+        [5, 1, 28, 29, 1, 0, 18, 81],
+    ),
+];
+
 /// The numbers of a text.
 pub fn numbers(text: &str) -> Vec<u16> {
     text.split_whitespace()
