@@ -18,7 +18,7 @@ pub fn first_out_of_range(list: &[u16]) -> Entries
     ensures { λ r. ⌜ r ≡ rangeOf (readOrder (now (list .entry))) ⌝ }
 {
     match ingredients_start(list) {
-        Number::Is { value: q, next } => scan(list, next, q),
+        Number::Is { value: q, next } => first_out_of_range_among(list, next, q),
         Number::Refused { place: _ } => Entries::Unread,
     }
 }
@@ -114,8 +114,8 @@ fn located_range(list: &[u16], what: Located) -> Entries
     }
 }
 
-// The first entry out of range of n ingredients.
-fn scan(list: &[u16], start: Cursor, n: usize) -> Entries
+// The first entry out of range of n ingredients, the first of which starts at the cursor.
+pub fn first_out_of_range_among(list: &[u16], start: Cursor, n: usize) -> Entries
     ensures { λ r. ⌜ r ≡ scanned n (now (list .entry)) (start .at) ⌝ }
 {
     let mut c = start;

@@ -1,10 +1,13 @@
-// The planner, and its pages, for programs in Rust, C and other languages: numbers and slices alone. include/yurbantze.h is the declaration for C.
+// The planner, its pages, and the check of a table, for programs in Rust, C and other languages: numbers and slices alone. include/yurbantze.h is the declaration for C.
 ghost use Rattle.page_promise.specs.PagePromise.{PagePromise};
 ghost use Rattle.promise.specs.PromiseInNumbers.{PromiseInNumbers};
+ghost use Rattle.written_table.specs.CheckInNumbers.{CheckInNumbers};
 use construction::plan;
 use numbering::answer_numbers;
 use numbering::answer_spare;
 use paging::print_page;
+use written_check::check_numbers;
+use written_check::check_written;
 
 // Plans an order, as `construction::plan` does. The answer is seven numbers: 0, the numbers of runs and columns, and zeros for a filled order, or
 // 01's number of the refusal and its six details. The first is returned. Beside them is a signed number: the spare degrees of a filled order (02,
@@ -40,4 +43,24 @@ pub extern "C" fn yurbantze_page(
     ensures { λ r. ⌜ PagePromise runs columns (now (levels .entry)) (now (table .entry)) number (now (page .entry)) r (now (page .exit)) ⌝ }
 {
     print_page(table, levels, runs, columns, number, page)
+}
+
+// Checks a table that is handed in by itself (02, K5), as `written_check::check_written` does: kind 1, rows, columns, level counts and entries. The answer
+// is seven numbers: zeros for a table that passes, or 01's number of the refusal, 2 to 5, and its six details, the table being ingredient 1. The first is
+// returned. Beside them is a signed number, the gap of the pair that refusal 5 names, and 0 otherwise. Nothing is required of a caller here either.
+#[no_mangle]
+pub extern "C" fn yurbantze_check_table(
+    list: &[u16],
+    answer: &mut [usize; 7],
+    gap: &mut i64,
+) -> usize
+    ensures { λ r. ⌜ CheckInNumbers (now (list .entry)) r (now (answer .exit)) (now (gap .exit)) ⌝ }
+{
+    let check = check_written(list);
+    let passing = check.passing;
+    let signed = check.gap;
+    let seven = check_numbers(passing);
+    *answer = seven;
+    *gap = signed;
+    seven[0]
 }

@@ -23,10 +23,10 @@ or-iff InRange b = (λ e. (refl, e), λ h. h .1)
 or-iff (OutOfRange place) b = (λ e. absurd (let z : _≡_ {A = ℕ} 0 1 = cc in omega arith), λ h. h .0)
 or-iff Unread b = (λ e. absurd (let z : _≡_ {A = ℕ} 0 1 = cc in omega arith), λ h. h .0)
 
-abbrev Within : Ingredient → Type 0
+abbrev pub Within : Ingredient → Type 0
 Within g = (q : ℕ) → q < length (entriesOf g) → getD (entriesOf g) q 0 < bound g q
 
-ingredient-iff : (from : ℕ) (g : Ingredient) → (ingredientRange from g ≡ InRange) ↔ Within g
+pub ingredient-iff : (from : ℕ) (g : Ingredient) → (ingredientRange from g ≡ InRange) ↔ Within g
 unfolding ingredientRange
 ingredient-iff from g =
     let ok : ℕ → Bool = λ q. ltb (getD (entriesOf g) q 0) (bound g q) in

@@ -12,14 +12,14 @@ ingredients-start-requires c κs = search needs
 enum-known-q : tie.Need-enum-known-q
 enum-known-q c = search needs
 
-scan-requires : tie.Need-scan-requires
-scan-requires c κs = search needs
+first-out-of-range-among-requires : tie.Need-first-out-of-range-among-requires
+first-out-of-range-among-requires c κs = search needs
 
 enum-told : tie.Need-enum-told
 enum-told c = search needs
 
 returns : tie.Need-returns
-returns c = c .scan .ensures ∙ scanned-order (now (c .before .before .before .before .before .before .args .list)) (sym (c .before .before .before .before .ingredients-start .ensures) ∙ c .before .before .q .given .1)
+returns c = c .first-out-of-range-among .ensures ∙ scanned-order (now (c .before .before .before .before .before .before .args .list)) (sym (c .before .before .before .before .ingredients-start .ensures) ∙ c .before .before .q .given .1)
 
 returns-2 : tie.Need-returns-2
 returns-2 c = range-unread (now (c .before .before .before .before .args .list)) (sym (c .before .before .ingredients-start .ensures) ∙ c .enum-told .given .1)
@@ -27,4 +27,4 @@ returns-2 c = range-unread (now (c .before .before .before .before .args .list))
 pub first-out-of-range-spec : {M : Type 1} → statement M
 first-out-of-range-spec =
     tie.close
-    (tie.spec ingredients-start-requires enum-known-q scan-requires enum-told returns returns-2)
+    (tie.spec ingredients-start-requires enum-known-q first-out-of-range-among-requires enum-told returns returns-2)

@@ -1,4 +1,4 @@
--- `entry_range::scan` meets its contract. The invariant: the walk from the cursor on gives the answer of the whole. An ingredient that was
+-- `entry_range::first_out_of_range_among` meets its contract. The invariant: the walk from the cursor on gives the answer of the whole. An ingredient that was
 -- read stands in the list, so what the search finds in the list is what the definition finds in the ingredient.
 use mathlib.Core.Path.{_≡_, refl, sym, _∙_}
 use mathlib.Core.List.{List}
@@ -16,8 +16,8 @@ use Rattle.order.proofs.Answers.{spot-value, spot-refused}
 use Rattle.order.proofs.IngredientLaw.{ingredient-law}
 use Rattle.entry_range.specs.Search.{locatedRange, scanned}
 use Rattle.entry_range.proofs.Ranges.{located-inside, located-same, scanned-on, scanned-high, scanned-unread, scanned-refused, scanned-done}
-use Rattle.entry_range.proofs.scan.Statement.{statement}
-use Rattle.entry_range.proofs.scan.Tie as tie
+use Rattle.entry_range.proofs.first_out_of_range_among.Statement.{statement}
+use Rattle.entry_range.proofs.first_out_of_range_among.Tie as tie
 
 abbrev Inv-loop : tie.InvT-loop
 Inv-loop list n c₀ left₀ c left = scanned left list (c .at) ≡ scanned n list (c₀ .at)
@@ -111,8 +111,8 @@ returns-4 c =
     sym (scanned-done _ _ (at-loop .left) (c .loop-test .left))
     ∙ at-loop .inv
 
-pub scan-spec : {M : Type 1} → statement M
-scan-spec =
+pub first-out-of-range-among-spec : {M : Type 1} → statement M
+first-out-of-range-among-spec =
     tie.close
     (tie.spec
     Inv-loop

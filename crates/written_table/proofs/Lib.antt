@@ -1,0 +1,5 @@
+pub mod Readings
+pub mod Written
+pub mod CheckPromises
+pub mod ChecksInNumbers
+pub mod Figures

@@ -1,0 +1,3 @@
+pub mod WrittenTable
+pub mod CheckPromise
+pub mod CheckInNumbers
