@@ -23,15 +23,17 @@ extern "C" {
 #define YURBANTZE_PAGE_LENGTH 4800
 
 /* The refusals, with their details in order. Columns, factors, steps, ingredients, members and pages count from 1; places, runs and levels from 0.
- * Details that are not named are 0. An order is refused by 1 to 11, and a page by 1, 12 or 13, which have no details. */
+ * Details that are not named are 0. An order is refused by 1 to 11, a table that is checked by itself by 2 to 5, and a page by 1, 12 or 13, which have no
+ * details. */
 enum yurbantze_number {
-    YURBANTZE_FILLED = 0,             /* no refusal: runs, columns; of a page, that it is printed */
+    YURBANTZE_FILLED = 0,             /* no refusal: runs, columns; of a page, that it is printed; of a table, that it passes */
     YURBANTZE_SHORT_BUFFERS = 1,      /* a buffer is too short; a sheet handed in has runs, columns or a level count outside 1 to 512, 1 to 128 or
                                          2 to 64, an entry that is not below its level, or a table or level list that is too short */
     YURBANTZE_UNREADABLE = 2,         /* place of the first number not allowed or left over, or the length if the list runs out */
     YURBANTZE_ENTRY_OUT_OF_RANGE = 3, /* place */
     YURBANTZE_UNEVEN_LEVEL = 4,       /* ingredient, column, level, times */
-    YURBANTZE_UNEVEN_PAIR = 5,        /* ingredient, first column, second column, first level, second level, times */
+    YURBANTZE_UNEVEN_PAIR = 5,        /* ingredient, first column, second column, first level, second level, times; the columns are the first two that
+                                         fail, and the levels those that are farthest off in them, the lowest two among equals */
     YURBANTZE_UNEVEN_DIFFERENCE = 6,  /* ingredient, first column, second column, difference, times */
     YURBANTZE_DEPENDENT = 7,          /* ingredient, first factor, second factor or 0, coefficients read base s, the first highest */
     YURBANTZE_STEP_NOT_ALLOWED = 8,   /* step */
@@ -99,6 +101,30 @@ size_t yurbantze_page(
     const uint8_t *levels, size_t levels_length,
     size_t runs, size_t columns, size_t number,
     uint8_t *page, size_t page_length);
+
+/* Checks one table, and returns answer[0]: 0 for a table that passes, and otherwise the number of the refusal, 2, 3, 4 or 5.
+ *
+ * list, list_length        The table, written as an ingredient of an order is: 1, the number of runs, the number of columns, the level count of each
+ *                          column, then the entries run by run, and nothing after them. The numbers are read and never altered. Any list is
+ *                          answered; one of more than 32,768 numbers is refused as 2 with place 32,768.
+ * answer                   Room for seven numbers, each of which is written by every call. Passes: seven zeros. Refused: the number of the refusal and
+ *                          its six details, as an order has them whose ingredient 1 is the table, but with places counted from 0 in this list.
+ * gap                      Room for one signed number, which is written by every call. Refused as 5: s * t * times - runs, where s and t are the level
+ *                          counts of the two columns, below zero where the pair of levels is short and above where it is over; no other pair of
+ *                          levels of the two columns is farther from 0. In every other case: 0.
+ *
+ * What answer and gap hold before the call does not matter: what is written depends on the list alone.
+ *
+ * What a caller owes: no pointer is null, not even that of a list of length 0. list points to as many numbers as its length says, all of which have
+ * been written, whatever they are, answer to seven and gap to one; all are aligned for their types. Nothing else reads or writes answer and gap, or writes
+ * the list, during the call, and none of the three lies over another.
+ *
+ * The function is lent no buffers and allocates nothing, but needs up to 90,000 bytes of stack. It keeps nothing between calls, so several threads may
+ * call it, each with an answer and a gap of its own. */
+size_t yurbantze_check_table(
+    const uint16_t *list, size_t list_length,
+    size_t answer[YURBANTZE_ANSWER_LENGTH],
+    int64_t *gap);
 
 #ifdef __cplusplus
 }

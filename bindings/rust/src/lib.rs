@@ -1,5 +1,6 @@
-//! Plans mixed orthogonal run tables, and prints them on pages: a safe wrapper of `yurbantze_plan` and `yurbantze_page`, which are written in Rattle
-//! and proved. Their promises are their contracts in crates/exported/src/lib.rt; include/yurbantze.h says the same in words.
+//! Plans mixed orthogonal run tables, prints them on pages, and checks tables: a safe wrapper of `yurbantze_plan`, `yurbantze_page` and
+//! `yurbantze_check_table`, which are written in Rattle and proved. Their promises are their contracts in crates/exported/src/lib.rt;
+//! include/yurbantze.h says the same in words.
 use std::fmt;
 
 /// How long the three buffers must be for an order to be planned.
@@ -36,6 +37,8 @@ extern "C" {
         page: *mut u8,
         page_length: usize,
     ) -> usize;
+
+    fn yurbantze_check_table(list: *const u16, list_length: usize, answer: *mut [usize; 7], gap: *mut i64) -> usize;
 }
 
 /// A run table: in any two columns with s and t levels each pair of levels stands in exactly runs ÷ (s × t) runs, and in each column each level in
@@ -93,14 +96,16 @@ impl Table {
     }
 }
 
-/// Why an order is refused. Columns, factors, steps, ingredients and members count from 1; places, runs and levels from 0; `times` is a number of
-/// runs.
+/// Why an order is refused, or a table that is checked by itself, which is ingredient 1 then. Columns, factors, steps, ingredients and members count from
+/// 1; places, runs and levels from 0; `times` is a number of runs.
 #[derive(Clone, Copy, Debug, PartialEq, Eq)]
 pub enum Refusal {
     ShortBuffers,
     Unreadable { place: usize },
     EntryOutOfRange { place: usize },
     UnevenLevel { ingredient: usize, column: usize, level: usize, times: usize },
+    /// The columns are the first two that fail, in the order 1-2, 1-3 and so on. The levels are those that are farthest off in them, s × t × times being
+    /// farthest from the number of runs, and the lowest two among equals.
     UnevenPair { ingredient: usize, first: usize, second: usize, first_level: usize, second_level: usize, times: usize },
     UnevenDifference { ingredient: usize, first: usize, second: usize, difference: usize, times: usize },
     /// The coefficients are read base s, the first highest; an only factor has 0 in the place of a second.
@@ -275,4 +280,31 @@ pub fn page(table: &[u8], levels: &[u8], runs: usize, columns: usize, number: us
         0 => Ok(()),
         _ => Err(PageRefusal::from_number(answer)),
     }
+}
+
+/// What the check of a table answers.
+#[derive(Clone, Copy, Debug, PartialEq, Eq)]
+pub struct TableCheck {
+    /// That the table passes, or why it does not: `Unreadable`, `EntryOutOfRange`, `UnevenLevel` or `UnevenPair`. The ingredient is 1, and places count
+    /// in the list that was handed in.
+    pub verdict: Result<(), Refusal>,
+    /// After `UnevenPair`, s × t × times less the number of runs, where s and t are the level counts of the two columns: below zero where the pair of
+    /// levels is short, above where it is over, and never 0. Divided by s × t it is how many runs the pair has too many. In every other case it is 0.
+    pub gap: i64,
+}
+
+/// Checks one table, written as an ingredient of an order is: 1, the number of runs, the number of columns, the level count of each column, then the
+/// entries run by run, and nothing after them. Any list is answered. The call needs up to 90,000 bytes of stack.
+pub fn check_table(list: &[u16]) -> TableCheck {
+    let mut answer = [0; 7];
+    let mut gap = 0;
+    // SAFETY: the list's pointer is a reference's, with the length of its slice, and so is not null, is aligned, and points to initialised numbers; the
+    // other two are those of local variables, which nothing else borrows. The function requires nothing else, and its proof says that it reads and writes
+    // within those lengths.
+    let number = unsafe { yurbantze_check_table(list.as_ptr(), list.len(), &mut answer, &mut gap) };
+    let verdict = match number {
+        0 => Ok(()),
+        _ => Err(Refusal::from_numbers(answer)),
+    };
+    TableCheck { verdict, gap }
 }
