@@ -1,9 +1,10 @@
 #!/usr/bin/env python3
-"""scan.py PROGRAM SECOND N SEED [pages]: N random texts on the standard input of both programs, outputs compared.
+"""scan.py PROGRAM SECOND N SEED [pages|checker]: N random texts on the standard input of both programs, outputs compared.
 
 PROGRAM is given each text in pieces cut at random places, and the next piece only when it has read the one before, so that no read goes over a cut;
 SECOND is given the text whole. The texts are orders, whole or damaged, and streams of bytes. With `pages` both programs are given random arguments too,
-and more of the texts are whole orders. The same SEED makes the same texts, cuts and arguments.
+and more of the texts are whole orders. With `checker` the texts have single tables in the place of orders, right and wrong ones, and more of them are
+whole. The same SEED makes the same texts, cuts and arguments.
 """
 
 import collections
@@ -97,7 +98,62 @@ def any_order(rng):
     return make(rng)
 
 
-# Texts.
+# Tables, as lists of numbers.
+
+
+def right_table(rng):
+    runs = 2 ** rng.randint(1, 6)
+    return parity_table(runs, rng.randint(1, runs - 1))
+
+
+def uneven_table(rng):
+    """Even columns in any order, or two of them nearly even together and then some entries exchanged."""
+    runs = rng.choice([6, 12, 18, 24, 36, 64])
+    levels = rng.choices([s for s in range(2, 65) if runs % s == 0][:4], k=rng.randint(2, 4))
+    stride, columns = 1, []
+    for s in levels:
+        column = [run // stride % s for run in range(runs)]
+        if runs % (stride * s) != 0 or rng.random() < 0.3:
+            column = rng.sample([run % s for run in range(runs)], runs)
+        for _ in range(rng.choice([0, 1, 2, 6])):
+            a, b = rng.randrange(runs), rng.randrange(runs)
+            column[a], column[b] = column[b], column[a]
+        columns.append(column)
+        stride *= s
+    return [1, runs, len(levels), *levels, *(column[run] for run in range(runs) for column in columns)]
+
+
+def large_table(rng):
+    """Nearly as many words as are allowed; perhaps two columns are equal."""
+    runs, columns = rng.choice([(512, 63), (256, 127)])
+    table = parity_table(runs, columns)
+    if rng.random() < 0.5:
+        first, second = sorted(rng.sample(range(columns), 2))
+        for start in range(3 + columns, len(table), columns):
+            table[start + second] = table[start + first]
+    return table
+
+
+def changed_table(rng):
+    """A number that may be out of its limits, an entry out of range or another level, a number too many or too few."""
+    table = rng.choice([right_table, uneven_table])(rng)
+    kind = rng.randrange(4)
+    if kind == 0:
+        table[rng.randrange(min(4, len(table)))] = rng.choice([0, 1, 2, 3, 64, 65, 128, 129, 512, 513])
+    elif kind == 1:
+        table[rng.randrange(3 + table[2], len(table))] = rng.choice([0, 1, 2, 64, 65535])
+    elif kind == 2:
+        table.append(rng.randrange(3))
+    else:
+        table.pop()
+    return table
+
+
+def any_table(rng):
+    return rng.choices([right_table, uneven_table, changed_table, large_table], [20, 50, 25, 3])[0](rng)
+
+
+# Texts. Each is made by `numbers`, which gives an order or a table.
 
 
 def gap(rng, least):
@@ -121,35 +177,35 @@ def text_of(rng, words):
     return b"".join(parts)
 
 
-def order_words(rng):
-    return [word(rng, number) for number in any_order(rng)]
+def list_words(rng, numbers):
+    return [word(rng, number) for number in numbers(rng)]
 
 
-def whole_text(rng):
-    return text_of(rng, order_words(rng))
+def whole_text(rng, numbers):
+    return text_of(rng, list_words(rng, numbers))
 
 
-def strange_word_text(rng):
-    words = order_words(rng)
+def strange_word_text(rng, numbers):
+    words = list_words(rng, numbers)
     place = rng.randrange(len(words))
     words[place] = rng.choice(STRANGE_WORDS)
     return text_of(rng, words)
 
 
-def changed_byte_text(rng):
-    text = bytearray(whole_text(rng))
+def changed_byte_text(rng, numbers):
+    text = bytearray(whole_text(rng, numbers))
     if text:
         place = rng.randrange(len(text))
         text[place : place + rng.randint(0, 1)] = rng.choice([bytes([rng.randrange(256)]), b"", b" ", b"0", b"7"])
     return bytes(text)
 
 
-def cut_off_text(rng):
-    text = whole_text(rng)
+def cut_off_text(rng, numbers):
+    text = whole_text(rng, numbers)
     return text[: rng.randint(0, len(text))]
 
 
-def too_many_words_text(rng):
+def too_many_words_text(rng, _numbers):
     """One word over the most, or more, and perhaps a strange one before, at or after that place."""
     words = [word(rng, rng.randrange(3)) for _ in range(MOST_WORDS + rng.choice([0, 1, 1, 2, 500]))]
     if rng.random() < 0.5:
@@ -158,14 +214,14 @@ def too_many_words_text(rng):
     return text_of(rng, words)
 
 
-def byte_stream(rng):
+def byte_stream(rng, _numbers):
     alphabet = rng.choice([b" \t\n0123456789", b" 0123456789abc-+.", b"\n01", bytes(range(256))])
     return bytes(rng.choices(alphabet, k=rng.choice([0, 1, 2, 5, 40, 300, 9000])))
 
 
-def make_text(rng):
+def make_text(rng, numbers):
     kinds = [whole_text, strange_word_text, changed_byte_text, cut_off_text, too_many_words_text, byte_stream]
-    return rng.choices(kinds, [30, 25, 15, 10, 2, 18])[0](rng)
+    return rng.choices(kinds, [30, 25, 15, 10, 2, 18])[0](rng, numbers)
 
 
 # Arguments of a program that prints pages. None holds a zero byte.
@@ -189,11 +245,12 @@ def page_arguments(rng):
     return [page_argument(rng) for _ in range(rng.choices([0, 1, 2], [15, 75, 10])[0])]
 
 
-def text_and_arguments(rng, pages):
-    if not pages:
-        return make_text(rng), []
-    text = whole_text(rng) if rng.random() < 0.7 else make_text(rng)
-    return text, page_arguments(rng)
+def text_and_arguments(rng, program):
+    if program == "planner":
+        return make_text(rng, any_order), []
+    numbers = any_order if program == "pages" else any_table
+    text = whole_text(rng, numbers) if rng.random() < 0.7 else make_text(rng, numbers)
+    return text, page_arguments(rng) if program == "pages" else []
 
 
 def cut(rng, text):
@@ -243,22 +300,25 @@ def output_in_pieces(command, pieces):
 
 
 def kind_of(output):
+    """By the first word, which is a number where an order is filled or a page printed."""
     words = output.split(maxsplit=2)
-    return "refused " + words[1].decode() if words[:1] == [b"refused"] else "filled"
+    if words[:1] == [b"refused"]:
+        return "refused " + words[1].decode()
+    return "passes" if words[:1] == [b"passes"] else "filled"
 
 
 def main():
-    if len(sys.argv) not in (5, 6) or sys.argv[5:] not in ([], ["pages"]):
-        sys.exit("scan.py PROGRAM SECOND N SEED [pages]")
+    if len(sys.argv) not in (5, 6) or sys.argv[5:] not in ([], ["pages"], ["checker"]):
+        sys.exit("scan.py PROGRAM SECOND N SEED [pages|checker]")
     program, second = sys.argv[1:3]
     count, seed = map(int, sys.argv[3:5])
-    pages = len(sys.argv) == 6
+    kind_of_program = sys.argv[5] if len(sys.argv) == 6 else "planner"
     kinds = collections.Counter()
     differing = []
     pieces_written = pieces_read = 0
     for index in range(count):
         rng = random.Random(f"{seed} {index}")
-        text, arguments = text_and_arguments(rng, pages)
+        text, arguments = text_and_arguments(rng, kind_of_program)
         pieces = cut(rng, text)
         wanted = subprocess.run([second, *arguments], input=text, stdout=subprocess.PIPE, check=True).stdout
         output, status, read = output_in_pieces([program, *arguments], pieces)

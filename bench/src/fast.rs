@@ -6,7 +6,7 @@
 //! all columns, SPLIT by house table 101, no other house table, no refusal of a generator, and of a
 //! step no other than 10. For an order that needs more the answer is None.
 //!
-//! `pages` is apart from that, and whole: any page of any sheet.
+//! `pages` is apart from that, and whole: any page of any sheet. So is `tables`: the check of any table.
 
 mod build;
 pub mod common_bits;
@@ -15,6 +15,7 @@ mod merge;
 mod nine;
 pub mod pages;
 mod read;
+pub mod tables;
 
 use crate::planners::{refused, Buffers, Numbers, Outcome};
 use count::TableCheck;
@@ -26,7 +27,9 @@ enum Stop {
 }
 
 pub fn plan(list: &[u16], buffers: &mut Buffers) -> Option<Outcome> {
-    plan_with(count::check_table, list, buffers)
+    let check_table =
+        |number, levels: &[u16], columns: &[&[u8]]| Ok(count::check_table(number, levels, columns));
+    plan_with(check_table, list, buffers)
 }
 
 fn plan_with(check_table: TableCheck, list: &[u16], buffers: &mut Buffers) -> Option<Outcome> {

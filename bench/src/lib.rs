@@ -2,17 +2,21 @@
 //!
 //! - `planners`: the proved planner and the second implementation, on the same lent buffers;
 //! - `printers`: the same for a page;
+//! - `checkers`: the same for the check of a table by itself;
 //! - `fast`: the fastest safe Rust for the large orders, for which the second implementation is slow,
-//!   and for a page;
+//!   for a page, and for the check of a table;
 //! - `orders`: the orders that are timed;
 //! - `sheets`: the sheets whose pages are timed;
+//! - `tables`: the tables whose check is timed;
 //! - `timing`: least times, taken in turn.
 
 #![forbid(unsafe_code)]
 
+pub mod checkers;
 pub mod fast;
 pub mod orders;
 pub mod planners;
 pub mod printers;
 pub mod sheets;
+pub mod tables;
 pub mod timing;

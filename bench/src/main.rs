@@ -1,13 +1,15 @@
-//! `bench [PLANNER]`: how long the proved planner and a proved page take, always as a ratio to something
-//! else.
+//! `bench [PLANNER]`: how long the proved planner, a proved page and the proved check of a table take,
+//! always as a ratio to something else.
 
 #![forbid(unsafe_code)]
 
+use bench::checkers;
 use bench::fast;
 use bench::orders::{cases, least_order, merge_cases, table_order, Case, MergeCase};
 use bench::planners::{plain, proved, Buffers, Outcome};
 use bench::printers::{self, Printer};
 use bench::sheets::{page_cases, PageCase};
+use bench::tables::{table_cases, TableCase};
 use bench::timing::{least_times, ratio, time_of, Effort};
 use second::pages::PAGE_LENGTH;
 use second::LEAST;
@@ -47,6 +49,10 @@ fn main() -> io::Result<()> {
     println!("\nproved page / second implementation, and / fast safe Rust");
     for case in page_cases() {
         print_page_times(&case);
+    }
+    println!("\nproved check of a table by itself / second implementation, and / fast safe Rust");
+    for case in table_cases() {
+        print_check_times(&case);
     }
     println!("\nproved planner / pairs counted by common bits, what a later request could gain");
     for case in &cases[..2] {
@@ -165,6 +171,25 @@ fn assert_pages_agree(case: &PageCase, number: usize) {
         answers.windows(2).all(|two| two[0] == two[1]),
         "an answer or a byte differs"
     );
+}
+
+fn print_check_times(case: &TableCase) {
+    for list in &case.lists {
+        let answers = checkers::ALL.map(|checker| checker(list));
+        assert!(
+            answers.windows(2).all(|two| two[0] == two[1]),
+            "a number differs"
+        );
+    }
+    let times = least_times(CALLS, checkers::ALL.len(), |which| {
+        time_of(|| {
+            for list in &case.lists {
+                black_box(checkers::ALL[which](black_box(list)));
+            }
+        })
+    });
+    let ratios: Vec<f64> = times[1..].iter().map(|&t| ratio(times[0], t)).collect();
+    print_line(&case.name, &ratios);
 }
 
 /// Tables of so many runs and columns, each with its time against that of the one before.

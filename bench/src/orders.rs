@@ -268,7 +268,7 @@ fn order(ingredients: &[Vec<u16>], steps: &[&[u16]]) -> Vec<u16> {
 
 /// A table of two-level columns; each is the parity of the ones that its number and the run's have
 /// in common. Columns of different numbers above 0 are even together.
-fn parity_table(runs: usize, columns: impl IntoIterator<Item = usize>) -> Vec<u16> {
+pub(crate) fn parity_table(runs: usize, columns: impl IntoIterator<Item = usize>) -> Vec<u16> {
     let columns: Vec<usize> = columns.into_iter().collect();
     let mut table = vec![1, runs as u16, columns.len() as u16];
     table.extend(vec![2; columns.len()]);

@@ -1,13 +1,16 @@
-//! `compare N SEED`: N made orders, and N made calls for pages, with the seeds from SEED on, through the
-//! static library, with other bytes in the buffers before each call. Answer, six details, the spare of
-//! a filled order and every byte of the buffers are compared with the second implementation's.
+//! `compare N SEED`: N made orders, N made calls for pages and N made tables, with the seeds from SEED
+//! on, through the static library, with other bytes in the buffers before each call. Answer, six
+//! details, the spare of a filled order, the gap of a table and every byte of the buffers are compared
+//! with the second implementation's.
 
 #![forbid(unsafe_code)]
 
+use bench::checkers;
 use bench::planners::{plain, proved, Buffers};
 use bench::printers::proved as proved_page;
-use second::maker::{make, Call, Random};
+use second::maker::{make, make_uneven, Call, Random};
 use second::page_calls::{self, PageCall};
+use second::table_calls;
 use std::collections::BTreeMap;
 use std::env;
 use std::ops::Range;
@@ -30,7 +33,10 @@ fn compare(seeds: Range<u64>) -> ExitCode {
     orders.print("orders", "filled", &seeds);
     let pages = Findings::of(seeds.clone(), try_page);
     pages.print("calls for pages", "printed", &seeds);
-    let all_agree = orders.differing.is_empty() && pages.differing.is_empty();
+    let tables = Findings::of(seeds.clone(), try_table);
+    tables.print("tables", "passing", &seeds);
+    let findings = [orders, pages, tables];
+    let all_agree = findings.iter().all(|of| of.differing.is_empty());
     ExitCode::from(u8::from(!all_agree))
 }
 
@@ -79,8 +85,12 @@ impl Findings {
     }
 }
 
+/// Every tenth order has an uneven table, which few of the others have.
 fn try_order(seed: u64) -> Trial {
-    let call = make(seed);
+    let call = match seed % 10 {
+        9 => make_uneven(seed),
+        _ => make(seed),
+    };
     let mut wanted_bytes = Buffers::zeros(call.lengths);
     let wanted = plain(&call.list, &mut wanted_bytes);
     let mut bytes = other_bytes(&call, seed);
@@ -102,6 +112,16 @@ fn try_page(seed: u64) -> Trial {
     Trial {
         number: wanted,
         agrees: number == wanted && bytes == wanted_bytes,
+    }
+}
+
+/// Right and wrong ones, compared in all eight numbers.
+fn try_table(seed: u64) -> Trial {
+    let list = table_calls::make(seed, &table_calls::ANY);
+    let wanted = checkers::plain(&list);
+    Trial {
+        number: wanted.numbers[0],
+        agrees: checkers::proved(&list) == wanted,
     }
 }
 

@@ -1,8 +1,7 @@
 //! What a later request could gain: the pairs of two-level columns counted by the ones in the two
 //! columns' common bits. All else is as in `fast`.
 
-use super::count::pairs;
-use super::Stop;
+use super::count::{pairs, NotWritten, TableFault};
 use crate::planners::{Buffers, Outcome};
 
 pub fn plan(list: &[u16], buffers: &mut Buffers) -> Option<Outcome> {
@@ -10,25 +9,33 @@ pub fn plan(list: &[u16], buffers: &mut Buffers) -> Option<Outcome> {
 }
 
 /// In a column with as many ones as zeros, and in two such columns, the lowest levels fail if any do.
-fn check_table(number: usize, levels: &[u16], columns: &[&[u8]]) -> Result<(), Stop> {
+/// In two columns all four pairs are as far off then (02, K5).
+fn check_table(
+    number: usize,
+    levels: &[u16],
+    columns: &[&[u8]],
+) -> Result<Option<TableFault>, NotWritten> {
     if levels.iter().any(|&level| level != 2) {
-        return Err(Stop::NotWritten);
+        return Err(NotWritten);
     }
     let runs = columns[0].len();
     let packed: Vec<Vec<u64>> = columns.iter().map(|column| pack(column)).collect();
     for (a, column) in packed.iter().enumerate() {
         let ones = common_ones(column, column);
         if 2 * ones != runs {
-            return Err(Stop::Refused([4, number, a + 1, 0, runs - ones, 0, 0]));
+            let numbers = [4, number, a + 1, 0, runs - ones, 0, 0];
+            return Ok(Some(TableFault { numbers, gap: 0 }));
         }
     }
     for (a, b) in pairs(packed.len()) {
         let ones = common_ones(&packed[a], &packed[b]);
         if 4 * ones != runs {
-            return Err(Stop::Refused([5, number, a + 1, b + 1, 0, 0, ones]));
+            let numbers = [5, number, a + 1, b + 1, 0, 0, ones];
+            let gap = 4 * ones as i64 - runs as i64;
+            return Ok(Some(TableFault { numbers, gap }));
         }
     }
-    Ok(())
+    Ok(None)
 }
 
 /// Sixty-four runs to a word.

@@ -4,13 +4,23 @@
 use super::nine;
 use super::read::{Ingredient, Shape};
 use super::Stop;
+use crate::planners::Numbers;
 use std::mem::take;
 
 /// Counters by key, zeros between uses.
 type Counters = [u16; 4_096];
 
-/// The check of an ingredient's table by its number, level counts and columns.
-pub type TableCheck = fn(usize, &[u16], &[&[u8]]) -> Result<(), Stop>;
+/// The refusal of a table, and its gap; 02, K5.
+pub struct TableFault {
+    pub numbers: Numbers,
+    pub gap: i64,
+}
+
+/// The check of an ingredient's table by its number, level counts and columns. It may be written for
+/// some tables alone.
+pub type TableCheck = fn(usize, &[u16], &[&[u8]]) -> Result<Option<TableFault>, NotWritten>;
+
+pub struct NotWritten;
 
 pub fn check(
     check_table: TableCheck,
@@ -21,7 +31,12 @@ pub fn check(
     let entries = ingredient.entries;
     match ingredient.shape {
         Shape::Table { levels } => {
-            check_table(number, levels, &laid_out(entries, levels.len(), scratch))
+            let columns = laid_out(entries, levels.len(), scratch);
+            match check_table(number, levels, &columns) {
+                Ok(None) => Ok(()),
+                Ok(Some(fault)) => Err(Stop::Refused(fault.numbers)),
+                Err(NotWritten) => Err(Stop::NotWritten),
+            }
         }
         Shape::Matrix { columns, p } => {
             check_matrix(number, p as u8, &laid_out(entries, columns, scratch))
@@ -31,7 +46,7 @@ pub fn check(
 }
 
 /// The columns of entries that stand row by row.
-fn laid_out<'a>(entries: &[u16], columns: usize, scratch: &'a mut [u8]) -> Vec<&'a [u8]> {
+pub fn laid_out<'a>(entries: &[u16], columns: usize, scratch: &'a mut [u8]) -> Vec<&'a [u8]> {
     let rows = entries.len() / columns;
     let mut cells = scratch.chunks_exact_mut(rows);
     let lay_out = |column: usize| {
@@ -44,24 +59,26 @@ fn laid_out<'a>(entries: &[u16], columns: usize, scratch: &'a mut [u8]) -> Vec<&
     (0..columns).map(lay_out).collect()
 }
 
-pub fn check_table(number: usize, levels: &[u16], columns: &[&[u8]]) -> Result<(), Stop> {
+pub fn check_table(number: usize, levels: &[u16], columns: &[&[u8]]) -> Option<TableFault> {
     let mut counters = [0; 4_096];
     for (a, column) in columns.iter().enumerate() {
         let keys = column.iter().map(|&x| usize::from(x));
         if let Some((x, times)) = deviation(keys, levels[a].into(), column.len(), &mut counters) {
-            return Err(Stop::Refused([4, number, a + 1, x, times, 0, 0]));
+            let numbers = [4, number, a + 1, x, times, 0, 0];
+            return Some(TableFault { numbers, gap: 0 });
         }
     }
     for (a, b) in pairs(columns.len()) {
         let (s, t) = (usize::from(levels[a]), usize::from(levels[b]));
         let runs = columns[a].iter().zip(columns[b]);
         let keys = runs.map(|(&x, &y)| usize::from(x) * t + usize::from(y));
-        if let Some((key, times)) = deviation(keys, s * t, columns[a].len(), &mut counters) {
-            let (x, y) = (key / t, key % t);
-            return Err(Stop::Refused([5, number, a + 1, b + 1, x, y, times]));
+        if let Some(lowest) = deviation(keys, s * t, columns[a].len(), &mut counters) {
+            let (key, times, gap) = farthest(lowest, s * t, columns[a].len(), &counters);
+            let numbers = [5, number, a + 1, b + 1, key / t, key % t, times];
+            return Some(TableFault { numbers, gap });
         }
     }
-    Ok(())
+    None
 }
 
 /// 02, K2: the differences are those of the field for 4, 8 and 9, and modulo p for every other p.
@@ -131,4 +148,26 @@ fn deviation(
             let times = usize::from(take(times));
             (n * times != runs).then_some((key, times))
         })
+}
+
+/// 02, K5: of n keys the one whose times are farthest from the n-th part of the runs, the lowest among
+/// equals, with its times and its gap. No key before the lowest that fails does, and the counters of
+/// those after it are still as they were counted.
+fn farthest(
+    lowest: (usize, usize),
+    n: usize,
+    runs: usize,
+    counters: &Counters,
+) -> (usize, usize, i64) {
+    let gap = |times: usize| (n * times) as i64 - runs as i64;
+    let (mut key, mut times) = lowest;
+    let mut size = gap(times).abs();
+    for (other, &counted) in counters[..n].iter().enumerate().skip(key + 1) {
+        let counted = usize::from(counted);
+        if gap(counted).abs() > size {
+            size = gap(counted).abs();
+            (key, times) = (other, counted);
+        }
+    }
+    (key, times, gap(times))
 }

@@ -37,20 +37,27 @@ pub enum Step<'a> {
 }
 
 pub fn order(list: &[u16]) -> Result<Order<'_>, Stop> {
-    if list.len() > 32_768 {
-        return Err(unreadable(32_768));
-    }
-    let mut reader = Reader { list, place: 0 };
+    let mut reader = Reader::of(list)?;
     let q = reader.number(|q| q <= 32)?;
     let ingredients = (0..q)
         .map(|_| reader.ingredient())
         .collect::<Result<_, _>>()?;
     let z = reader.number(|z| (1..=16).contains(&z))?;
     let steps = (0..z).map(|_| reader.step()).collect::<Result<_, _>>()?;
-    if reader.place < list.len() {
-        return Err(unreadable(reader.place));
-    }
+    reader.end()?;
     Ok(Order { ingredients, steps })
+}
+
+/// A list that is one table, as an ingredient is written; its level counts stand in the list.
+pub fn table(list: &[u16]) -> Result<(&[u16], Ingredient<'_>), Stop> {
+    let mut reader = Reader::of(list)?;
+    if list.first() != Some(&1) {
+        return Err(unreadable(0));
+    }
+    let table = reader.ingredient()?;
+    reader.end()?;
+    let levels = &list[3..table.place];
+    Ok((levels, table))
 }
 
 fn unreadable(place: usize) -> Stop {
@@ -64,6 +71,20 @@ struct Reader<'a> {
 }
 
 impl<'a> Reader<'a> {
+    fn of(list: &'a [u16]) -> Result<Reader<'a>, Stop> {
+        match list.len() {
+            0..=32_768 => Ok(Reader { list, place: 0 }),
+            _ => Err(unreadable(32_768)),
+        }
+    }
+
+    fn end(&self) -> Result<(), Stop> {
+        match self.place < self.list.len() {
+            true => Err(unreadable(self.place)),
+            false => Ok(()),
+        }
+    }
+
     fn number(&mut self, allowed: impl Fn(u16) -> bool) -> Result<usize, Stop> {
         match self.list.get(self.place) {
             Some(&number) if allowed(number) => {
