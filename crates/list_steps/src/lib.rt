@@ -4,7 +4,7 @@ mod operand_numbers; // operand_numbers.rt: the p of MERGE, and the numbers of i
 ghost use mathlib.Core.Path.{_≡_};
 ghost use Prim.Native.Nat.{_+_};
 ghost use Rattle.order.specs.Reader.{allowed, repeated};
-ghost use Rattle.order.specs.Grammar.{ingredientNumber, counted, readSum, readMerge, readSplit, stepOf, readStep};
+ghost use Rattle.order.specs.Grammar.{ingredientNumber, counted, readSum, readMerge, readSplit, readCross, stepOf, readStep};
 ghost use Rattle.order.specs.Answers.{stageOf, walkAfter, walkOf};
 use list_numbers::number;
 use list_series::series;
@@ -67,6 +67,16 @@ fn split_operands(list: &[u16], c: Cursor) -> Walk
     }
 }
 
+// CROSS: the operands of SUM, and an ingredient, which is never 0 (document 02, K6).
+fn cross_operands(list: &[u16], c: Cursor) -> Walk
+    ensures { λ r. ⌜ r ≡ walkOf (readCross (now (list .entry)) (c .at)) ⌝ }
+{
+    match sum_operands(list, c) {
+        Walk::On { next } => after(ingredient_number(list, next)),
+        Walk::Refused { place } => Walk::Refused { place },
+    }
+}
+
 // The operands of a step of a kind.
 fn operands(list: &[u16], c: Cursor, kind: usize) -> Walk
     ensures { λ r. ⌜ r ≡ walkOf (stepOf kind (now (list .entry)) (c .at)) ⌝ }
@@ -76,7 +86,8 @@ fn operands(list: &[u16], c: Cursor, kind: usize) -> Walk
         2 => after(ingredient_number(list, c)),
         3 => sum_operands(list, c),
         4 => merge_operands(list, c),
-        _ => split_operands(list, c),
+        5 => split_operands(list, c),
+        _ => cross_operands(list, c),
     }
 }
 
@@ -84,7 +95,7 @@ fn operands(list: &[u16], c: Cursor, kind: usize) -> Walk
 pub fn step(list: &[u16], c: Cursor) -> Stage
     ensures { λ r. ⌜ r ≡ stageOf (c .at + 1) (readStep (now (list .entry)) (c .at)) ⌝ }
 {
-    match number(list, c, 1, 5) {
+    match number(list, c, 1, 6) {
         Number::Is { value: kind, next } => match operands(list, next, kind) {
             Walk::On { next: end } => Stage::Found {
                 kind,

@@ -2,7 +2,7 @@
 use mathlib.Core.List.{List}
 use Prim.Native.Nat.{ℕ, _+_}
 use lib.ListN.{length}
-use Rattle.order.specs.Order.{Ingredient, table, matrix, generator, Step, TAKE, FIELD, SUM, MERGE, SPLIT, Order, total}
+use Rattle.order.specs.Order.{Ingredient, table, matrix, generator, Step, TAKE, FIELD, SUM, MERGE, SPLIT, CROSS, Order, total}
 use Rattle.order.specs.Reader.{Parsed, value, refused}
 use Rattle.order.specs.declared.Number.{Number}
 use Rattle.order.specs.declared.Number.the-variants.{Is, Refused}
@@ -50,13 +50,14 @@ unfoldable pub spotOf : ℕ → Parsed Ingredient → Spot
 spotOf from (value g next) = Found (located from g) (record { at = next })
 spotOf from (refused place) = Refused-spot place
 
--- The kind of a step, as 01 numbers them.
+-- The kind of a step, as 01 numbers them, and 02 the last.
 abbrev pub kindOf : Step → ℕ
 kindOf (TAKE i) = 1
 kindOf (FIELD i) = 2
 kindOf (SUM ds k) = 3
 kindOf (MERGE p cs) = 4
 kindOf (SPLIT c i) = 5
+kindOf (CROSS ds k h) = 6
 
 -- A step whose operands start at from, and the cursor after it.
 unfoldable pub stageOf : ℕ → Parsed Step → Stage

@@ -1,11 +1,11 @@
--- The reader of an order (document 01, "The order" and question 2).
+-- The reader of an order (document 01, "The order" and question 2; document 02, K6, for step 6).
 use mathlib.Core.Path.{_≡_}
 use mathlib.Core.Bool.{Bool, _&&_, _||_, not}
 use mathlib.Core.List.{List}
 use Prim.Native.Nat.{ℕ, _+_, _*_, _^_}
 use lib.ListN.{length}
 use lib.Dec.{ltb, leb, eqb}
-use Rattle.order.specs.Order.{Ingredient, table, matrix, generator, Step, TAKE, FIELD, SUM, MERGE, SPLIT, Order, total}
+use Rattle.order.specs.Order.{Ingredient, table, matrix, generator, Step, TAKE, FIELD, SUM, MERGE, SPLIT, CROSS, Order, total}
 use Rattle.order.specs.Reader.{Parsed, value, refused, Reader, when, _>>=_, give, allowed, numbers, repeated}
 
 -- Tests of single numbers, by the limits of specs/Order.antt: `Between`, `GeneratorField`, `FactorWidth`, `MergePrime` and `IngredientNumber`.
@@ -24,7 +24,7 @@ mergePrime p = between 2 7 p && not (eqb p 4) && not (eqb p 6)
 abbrev pub ingredientNumber : ℕ → Bool
 ingredientNumber i = between 1 32 i || between 101 104 i
 
--- The k of SUM is an ingredient, or 0 for none.
+-- The k of SUM and of CROSS is an ingredient, or 0 for none.
 abbrev pub noneOrIngredient : ℕ → Bool
 noneOrIngredient k = eqb k 0 || ingredientNumber k
 
@@ -78,11 +78,17 @@ readNaming step = do
   i ← allowed ingredientNumber
   give (step i)
 
-unfoldable pub readSum : Reader Step
-readSum = do
+-- The operands of SUM, with which those of CROSS begin: the matrices, and a table or none.
+abbrev pub sumOperands : Reader (List ℕ × ℕ)
+sumOperands = do
   ds ← counted 1 16 (allowed ingredientNumber)
   k ← allowed noneOrIngredient
-  give (SUM ds k)
+  give (ds, k)
+
+unfoldable pub readSum : Reader Step
+readSum = do
+  operands ← sumOperands
+  give (SUM (operands .0) (operands .1))
 
 unfoldable pub readMerge : Reader Step
 readMerge = do
@@ -96,15 +102,23 @@ readSplit = do
   i ← allowed ingredientNumber
   give (SPLIT c i)
 
--- Kinds 1 to 5 are TAKE, FIELD, SUM, MERGE and SPLIT.
+-- Step 6 of 02, K6: its h, unlike k, is never 0.
+unfoldable pub readCross : Reader Step
+readCross = do
+  operands ← sumOperands
+  h ← allowed ingredientNumber
+  give (CROSS (operands .0) (operands .1) h)
+
+-- Kinds 1 to 6 are TAKE, FIELD, SUM, MERGE, SPLIT and CROSS.
 abbrev pub stepOf : ℕ → Reader Step
 stepOf kind =
     when (eqb kind 1) (readNaming TAKE)
-    (when (eqb kind 2) (readNaming FIELD) (when (eqb kind 3) readSum (when (eqb kind 4) readMerge readSplit)))
+    (when (eqb kind 2) (readNaming FIELD)
+    (when (eqb kind 3) readSum (when (eqb kind 4) readMerge (when (eqb kind 5) readSplit readCross))))
 
 unfoldable pub readStep : Reader Step
 readStep = do
-  kind ← allowed (between 1 5)
+  kind ← allowed (between 1 6)
   stepOf kind
 
 -- All ingredients and all steps.

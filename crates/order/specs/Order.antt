@@ -17,13 +17,15 @@ entriesOf (table rows levels entries) = entries
 entriesOf (matrix rows columns p entries) = entries
 entriesOf (generator t s widths entries) = entries
 
--- A step, by the names of 01: its numbers are ingredients (TAKE, FIELD, SUM, the second of SPLIT) and columns (MERGE, the first of SPLIT).
+-- A step, by the names of 01: its numbers are ingredients (TAKE, FIELD, SUM, the second of SPLIT) and columns (MERGE, the first of SPLIT). Step 6 of
+-- 02, K6 is CROSS here: the operands of SUM, then the table h that follows the old runs.
 pub data Step : Type 0 where
   TAKE : (i : ℕ) → Step
   FIELD : (i : ℕ) → Step
   SUM : (ds : List ℕ) (k : ℕ) → Step
   MERGE : (p : ℕ) (cs : List ℕ) → Step
   SPLIT : (c i : ℕ) → Step
+  CROSS : (ds : List ℕ) (k h : ℕ) → Step
 
 -- Ingredients are numbered from 1 in the order of the list.
 pub record Order : Type 0 where
@@ -76,15 +78,20 @@ IngredientLimits (generator t s widths entries) =
     × All (FactorWidth s) widths
     × (length entries ≡ t * total widths)
 
--- Limits of a step; only the k of SUM may be 0, for none.
+-- Limits of the operands of SUM, which CROSS has too; only k may be 0, for none.
+abbrev pub SumLimits : List ℕ → ℕ → Type 0
+SumLimits ds k = Between 1 16 (length ds) × All IngredientNumber ds × ((k ≡ 0) ⊎ IngredientNumber k)
+
+-- Limits of a step; the h of CROSS is never 0 (02, K6).
 abbrev pub StepLimits : Step → Type 0
 StepLimits (TAKE i) = IngredientNumber i
 StepLimits (FIELD i) = IngredientNumber i
-StepLimits (SUM ds k) = Between 1 16 (length ds) × All IngredientNumber ds × ((k ≡ 0) ⊎ IngredientNumber k)
+StepLimits (SUM ds k) = SumLimits ds k
 StepLimits (MERGE p cs) = MergePrime p × (length cs ≡ p + 1) × All (Between 1 128) cs
 StepLimits (SPLIT c i) = Between 1 128 c × IngredientNumber i
+StepLimits (CROSS ds k h) = SumLimits ds k × IngredientNumber h
 
--- All limits of 01 on an order.
+-- All limits of 01 and of 02, K6 on an order.
 pub record WithinLimits (o : Order) : Type 0 where
   pub ingredient-count : length (o .ingredients) ≤ 32
   pub each-ingredient : All IngredientLimits (o .ingredients)
@@ -104,6 +111,7 @@ writtenStep (FIELD i) = 2 ∷ i ∷ []
 writtenStep (SUM ds k) = 3 ∷ length ds ∷ ds ++ k ∷ []
 writtenStep (MERGE p cs) = 4 ∷ p ∷ cs
 writtenStep (SPLIT c i) = 5 ∷ c ∷ i ∷ []
+writtenStep (CROSS ds k h) = 6 ∷ length ds ∷ ds ++ k ∷ h ∷ []
 
 -- What w writes of each element, one after the other.
 abbrev pub writtenAll : {A : Type 0} → (A → List ℕ) → List A → List ℕ

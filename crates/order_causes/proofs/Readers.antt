@@ -8,10 +8,10 @@ use native.Mathlib.Nat.{pow-le-pow-left, pow-le-pow-right, le-trans}
 use native.Mathlib.Omega.{arith}
 use borrow.Author.Tests.{eqb-false}
 use lib.Dec.{eqb, lit≤}
-use Rattle.order.specs.Order.{table, matrix, generator, Step, TAKE, FIELD, SUM, MERGE, SPLIT, total, GeneratorField, FactorWidth}
+use Rattle.order.specs.Order.{table, matrix, generator, Step, TAKE, FIELD, SUM, MERGE, SPLIT, CROSS, total, GeneratorField, FactorWidth}
 use Rattle.order.specs.Reader.{Reader, when, allowed}
 use Rattle.order.specs.Grammar.{generatorField, factorWidth, mergePrime, ingredientNumber, noneOrIngredient, mostRows}
-use Rattle.order.specs.Grammar.{tableBody, matrixBody, generatorBody, readIngredient, readNaming, readSum, readMerge, readSplit, readStep, readParts}
+use Rattle.order.specs.Grammar.{tableBody, matrixBody, generatorBody, readIngredient, readNaming, sumOperands, readSum, readMerge, readSplit, readCross, readStep, readParts}
 use Rattle.order.proofs.Tests.{generatorField-iff, factorWidth-iff}
 use Rattle.order.proofs.Law.{Law}
 use Rattle.order.proofs.ByKind.{between-law}
@@ -62,7 +62,7 @@ ingredient-at-once =
     some-rows true = omega arith
     some-rows false = omega arith
 
--- The steps. Ingredient 1 can be named wherever one is, and 0, for none, as the k of SUM.
+-- The steps. Ingredient 1 can be named wherever one is, and 0, for none, as the k of SUM and of CROSS.
 named-at-once : RefusesAtOnce (allowed ingredientNumber)
 named-at-once = allowed-at-once ingredientNumber 1 refl
 
@@ -70,11 +70,14 @@ naming-at-once : (step : ℕ → Step) → RefusesAtOnce (readNaming step)
 unfolding readNaming
 naming-at-once step = bind-at-once named-at-once λ i g. give-at-once (step i)
 
+sum-operands-at-once : RefusesAtOnce sumOperands
+sum-operands-at-once =
+    bind-at-once (counted-at-once 1 16 (omega arith) named-at-once) λ ds g.
+    bind-at-once (allowed-at-once noneOrIngredient 0 refl) λ k g′. give-at-once (ds, k)
+
 sum-at-once : RefusesAtOnce readSum
 unfolding readSum
-sum-at-once =
-    bind-at-once (counted-at-once 1 16 (omega arith) named-at-once) λ ds g.
-    bind-at-once (allowed-at-once noneOrIngredient 0 refl) λ k g′. give-at-once (SUM ds k)
+sum-at-once = bind-at-once sum-operands-at-once λ operands g. give-at-once (SUM (operands .0) (operands .1))
 
 merge-at-once : RefusesAtOnce readMerge
 unfolding readMerge
@@ -88,14 +91,21 @@ split-at-once =
     bind-at-once (between-at-once 1 128 (omega arith)) λ c g.
     bind-at-once named-at-once λ i g′. give-at-once (SPLIT c i)
 
+cross-at-once : RefusesAtOnce readCross
+unfolding readCross
+cross-at-once =
+    bind-at-once sum-operands-at-once λ operands g.
+    bind-at-once named-at-once λ h g′. give-at-once (CROSS (operands .0) (operands .1) h)
+
 step-at-once : RefusesAtOnce readStep
 unfolding readStep
 step-at-once =
-    bind-at-once (between-at-once 1 5 (omega arith)) λ kind g.
+    bind-at-once (between-at-once 1 6 (omega arith)) λ kind g.
     when-at-once (eqb kind 1) (λ e. naming-at-once TAKE) λ not-1.
     when-at-once (eqb kind 2) (λ e. naming-at-once FIELD) λ not-2.
     when-at-once (eqb kind 3) (λ e. sum-at-once) λ not-3.
-    when-at-once (eqb kind 4) (λ e. merge-at-once) λ not-4. split-at-once
+    when-at-once (eqb kind 4) (λ e. merge-at-once) λ not-4.
+    when-at-once (eqb kind 5) (λ e. split-at-once) λ not-5. cross-at-once
 
 pub parts-at-once : RefusesAtOnce readParts
 unfolding readParts

@@ -4,14 +4,14 @@ use mathlib.Core.List.{List, [], _∷_, _++_}
 use mathlib.Core.Option.{Option, none, some}
 use Prim.Native.Nat.{ℕ, zero, suc, _+_, _≤_}
 use native.Mathlib.Omega.{arith}
-use lib.ListN.{length, take, drop, getElem?}
-use Rattle.order.specs.Order.{Ingredient, table, matrix, generator, Step, TAKE, FIELD, SUM, MERGE, SPLIT, Order, All, IngredientLimits, StepLimits, writtenIngredient, writtenStep, writtenAll, written, entriesOf}
+use lib.ListN.{length, getD, take, drop, getElem?}
+use Rattle.order.specs.Order.{Ingredient, table, matrix, generator, Step, TAKE, FIELD, SUM, MERGE, SPLIT, CROSS, Order, All, IngredientLimits, StepLimits, writtenIngredient, writtenStep, writtenAll, written, entriesOf}
 use Rattle.order.specs.Grammar.{readOrder, Reads}
 use Rattle.order.specs.Answers.{entriesFrom, located, kindOf}
 use Rattle.order.specs.declared.Located.the-variants.{Missing}
 use Rattle.order.proofs.Segment.{Segment, segment-whole, part-left, part-right, segment-numbers, number-is}
 use Rattle.order.proofs.OrderLaw.{reads-iff}
-use Rattle.places.specs.Places.{nthIn, firstStepPlace, ingredientFrom, stepFrom, ingredientAt, stepAt, ingredientIn, stepIn}
+use Rattle.places.specs.Places.{nthIn, firstStepPlace, ingredientFrom, stepFrom, ingredientAt, stepAt, ingredientIn, matricesFrom, adjoinedFrom, crossedFrom, stepIn}
 use Rattle.places.specs.declared.Placed.the-variants.{Step as Step-at, Missing as Missing-step}
 use Rattle.places.proofs.Lookups.{nth-none}
 
@@ -70,6 +70,24 @@ module _ {list : List ℕ} {place after : ℕ} where
       let body = part-right (3 ∷ t ∷ length widths ∷ []) (s ∷ widths ++ entries) seg in
       segment-numbers (part-left widths entries (part-right (s ∷ []) (widths ++ entries) body))
 
+-- The operands of SUM, with which those of CROSS begin; v is what follows them.
+module _ {list : List ℕ} {at after : ℕ} (ds : List ℕ) (k : ℕ) (v : List ℕ) (s : Segment list at (length ds ∷ ds ++ k ∷ v) after) where
+  count-stands : getD list at 0 ≡ length ds
+  count-stands = number-is (part-left (length ds ∷ []) (ds ++ k ∷ v) s)
+
+  after-matrices : Segment list (at + 1 + length ds) (k ∷ v) after
+  after-matrices = part-right ds (k ∷ v) (part-right (length ds ∷ []) (ds ++ k ∷ v) s)
+
+  matrices-stand : matricesFrom list at ≡ ds
+  matrices-stand = rw count-stands (segment-numbers (part-left ds (k ∷ v) (part-right (length ds ∷ []) (ds ++ k ∷ v) s)))
+
+  adjoined-stands : adjoinedFrom list at ≡ k
+  adjoined-stands = rw count-stands (number-is (part-left (k ∷ []) v after-matrices))
+
+crossed-stands : {list : List ℕ} {at after : ℕ} (ds : List ℕ) (k h : ℕ) → Segment list at (length ds ∷ ds ++ k ∷ h ∷ []) after → crossedFrom list at ≡ h
+crossed-stands ds k h s =
+    rw (count-stands ds k (h ∷ []) s) (number-is (part-right (k ∷ []) (h ∷ []) (after-matrices ds k (h ∷ []) s)))
+
 -- The ingredient that a look-up describes is that of the order, and none is described past the last.
 described : {list : List ℕ} {place after : ℕ} (g : Ingredient) → IngredientLimits g → Segment list place (writtenIngredient g) after → ingredientIn list (located (place + 3) g) ≡ some g
 described (table rows levels entries) h s = rw (levels-stand rows levels entries s, ← h .3, entries-stand (table rows levels entries) s)
@@ -98,14 +116,16 @@ step-described-at (TAKE i) h t = rw (number-is (part-right (1 ∷ []) (i ∷ [])
 step-described-at (FIELD i) h t = rw (number-is (part-right (2 ∷ []) (i ∷ []) t))
 step-described-at (SUM ds k) h t =
     let operands = part-right (3 ∷ []) (length ds ∷ ds ++ k ∷ []) t in
-    let rest = part-right (length ds ∷ []) (ds ++ k ∷ []) operands in
-    rw (number-is (part-left (length ds ∷ []) (ds ++ k ∷ []) operands), segment-numbers (part-left ds (k ∷ []) rest), number-is (part-right ds (k ∷ []) rest))
+    rw (matrices-stand ds k [] operands, adjoined-stands ds k [] operands)
 step-described-at (MERGE p cs) h t =
     let operands = part-right (4 ∷ []) (p ∷ cs) t in
     rw (number-is (part-left (p ∷ []) cs operands), ← h .1, segment-numbers (part-right (p ∷ []) cs operands))
 step-described-at (SPLIT c i) h t =
     let operands = part-right (5 ∷ []) (c ∷ i ∷ []) t in
     rw (number-is (part-left (c ∷ []) (i ∷ []) operands), number-is (part-right (c ∷ []) (i ∷ []) operands))
+step-described-at (CROSS ds k h) limits t =
+    let operands = part-right (6 ∷ []) (length ds ∷ ds ++ k ∷ h ∷ []) t in
+    rw (matrices-stand ds k (h ∷ []) operands, adjoined-stands ds k (h ∷ []) operands, crossed-stands ds k h operands)
 
 pub step-described : (list : List ℕ) (o : Order) → Reads list o → (k : ℕ) → stepIn list (stepAt (readOrder list) (suc k)) ≡ getElem? (o .steps) k
 unfolding stepAt

@@ -4,7 +4,7 @@ use mathlib.Core.Option.{Option, none, some}
 use Prim.Native.Nat.{ℕ, zero, suc, _+_, _*_}
 use lib.Dec.{eqb}
 use lib.ListN.{length, getD, take, drop}
-use Rattle.order.specs.Order.{Ingredient, table, matrix, generator, Step, TAKE, FIELD, SUM, MERGE, SPLIT, Order, writtenIngredient, writtenStep, writtenAll}
+use Rattle.order.specs.Order.{Ingredient, table, matrix, generator, Step, TAKE, FIELD, SUM, MERGE, SPLIT, CROSS, Order, writtenIngredient, writtenStep, writtenAll}
 use Rattle.order.specs.Reader.{Parsed, value, refused, Reader, when, repeated}
 use Rattle.order.specs.Grammar.{readIngredient, readStep}
 use Rattle.order.specs.Answers.{located, kindOf}
@@ -99,13 +99,24 @@ ingredientIn list (Generator t n s widthsAt width entriesAt) =
     some (generator t s (take n (drop widthsAt list)) (take (t * width) (drop entriesAt list)))
 ingredientIn list Missing = none
 
+-- The operands of SUM and CROSS start with r, after which stand the r matrices, k and, of CROSS alone, h.
+abbrev pub matricesFrom : List ℕ → ℕ → List ℕ
+matricesFrom list at = take (getD list at 0) (drop (at + 1) list)
+
+abbrev pub adjoinedFrom : List ℕ → ℕ → ℕ
+adjoinedFrom list at = getD list (at + 1 + getD list at 0) 0
+
+abbrev pub crossedFrom : List ℕ → ℕ → ℕ
+crossedFrom list at = getD list (at + 1 + getD list at 0 + 1) 0
+
 abbrev pub operandsOf : List ℕ → ℕ → ℕ → Step
 operandsOf list kind at =
     when (eqb kind 1) (TAKE (getD list at 0))
     (when (eqb kind 2) (FIELD (getD list at 0))
-    (when (eqb kind 3) (SUM (take (getD list at 0) (drop (at + 1) list)) (getD list (at + 1 + getD list at 0) 0))
+    (when (eqb kind 3) (SUM (matricesFrom list at) (adjoinedFrom list at))
     (when (eqb kind 4) (MERGE (getD list at 0) (take (getD list at 0 + 1) (drop (at + 1) list)))
-    (SPLIT (getD list at 0) (getD list (at + 1) 0)))))
+    (when (eqb kind 5) (SPLIT (getD list at 0) (getD list (at + 1) 0))
+    (CROSS (matricesFrom list at) (adjoinedFrom list at) (crossedFrom list at))))))
 
 abbrev pub stepIn : List ℕ → Placed → Option Step
 stepIn list (Step-at kind at) = some (operandsOf list kind at)

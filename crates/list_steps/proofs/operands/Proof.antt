@@ -28,6 +28,9 @@ merge-operands-requires c κs = search needs
 split-operands-requires : tie.Need-split-operands-requires
 split-operands-requires c κs = search needs
 
+cross-operands-requires : tie.Need-cross-operands-requires
+cross-operands-requires c κs = search needs
+
 returns : tie.Need-returns
 unfolding readNaming
 returns c = rw (c .before .before .match .keys1) (number-last TAKE _ (c .after .ensures) (c .before .ingredient-number .ensures))
@@ -43,9 +46,12 @@ returns-4 : tie.Need-returns-4
 returns-4 c = rw (c .before .match .keys4) (c .merge-operands .ensures)
 
 returns-5 : tie.Need-returns-5
-returns-5 c =
+returns-5 c = rw (c .before .match .keys5) (c .split-operands .ensures)
+
+returns-6 : tie.Need-returns-6
+returns-6 c =
     let rest = c .before .match .rest in
-    simp (ne-eqb _ _ (rest .0 .0 .0 .1), ne-eqb _ _ (rest .0 .0 .1), ne-eqb _ _ (rest .0 .1), ne-eqb _ _ (rest .1)) (c .split-operands .ensures)
+    simp (ne-eqb _ _ (rest .0 .0 .0 .0 .1), ne-eqb _ _ (rest .0 .0 .0 .1), ne-eqb _ _ (rest .0 .0 .1), ne-eqb _ _ (rest .0 .1), ne-eqb _ _ (rest .1)) (c .cross-operands .ensures)
 
 pub operands-spec : {M : Type 1} → statement M
 operands-spec =
@@ -58,8 +64,10 @@ operands-spec =
     sum-operands-requires
     merge-operands-requires
     split-operands-requires
+    cross-operands-requires
     returns
     returns-2
     returns-3
     returns-4
-    returns-5)
+    returns-5
+    returns-6)

@@ -19,7 +19,7 @@ enum-known-kind : tie.Need-enum-known-kind
 enum-known-kind c = search needs
 
 -- The kind was read.
-kind-read : (c : tie.After-known-told) → numberOf (allowed (between 1 5) (now (c .before .before .before .before .before .args .list)) (c .before .before .before .before .before .args .c .at)) ≡ Is (c .before .kind .given .0 .0) (c .before .kind .given .0 .1 .0)
+kind-read : (c : tie.After-known-told) → numberOf (allowed (between 1 6) (now (c .before .before .before .before .before .args .list)) (c .before .before .before .before .before .args .c .at)) ≡ Is (c .before .kind .given .0 .0) (c .before .kind .given .0 .1 .0)
 kind-read c = sym (c .before .before .before .number .ensures) ∙ c .before .kind .given .1
 
 operands-requires : tie.Need-operands-requires

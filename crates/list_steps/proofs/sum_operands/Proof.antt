@@ -1,9 +1,8 @@
 -- `list_steps::sum_operands` meets its contract: the matrices are read, and then the table or none.
 use mathlib.Core.Path.{sym, _∙_}
-use Rattle.order.specs.Order.{SUM}
-use Rattle.order.specs.Grammar.{readSum}
 use Rattle.order.specs.Answers.{walkOf}
 use Rattle.order.proofs.Answers.{walk-go, walk-stops, number-last}
+use Rattle.order.proofs.Stages.{sum-ends}
 use borrow.Author.Needs.{needs}
 use Rattle.list_steps.proofs.sum_operands.Statement.{statement}
 use Rattle.list_steps.proofs.sum_operands.Tie as tie
@@ -24,14 +23,13 @@ enum-known-place : tie.Need-enum-known-place
 enum-known-place c = search needs
 
 returns : tie.Need-returns
-unfolding readSum
 returns c =
-    walk-go walkOf _ _ (sym (c .before .before .before .before .before .matrices .ensures) ∙ c .before .before .before .next .given .1) λ ds v.
-    number-last (SUM ds) _ (c .after .ensures) (c .before .none-or-ingredient .ensures)
+    walk-go walkOf _ _ (sym (c .before .before .before .before .before .matrices .ensures) ∙ c .before .before .before .next .given .1)
+    (λ ds v. number-last (λ k. (ds, k)) _ (c .after .ensures) (c .before .none-or-ingredient .ensures))
+    ∙ sum-ends _ _
 
 returns-2 : tie.Need-returns-2
-unfolding readSum
-returns-2 c = walk-stops _ _ (sym (c .before .before .before .matrices .ensures) ∙ c .before .place .given .1)
+returns-2 c = walk-stops _ _ (sym (c .before .before .before .matrices .ensures) ∙ c .before .place .given .1) ∙ sum-ends _ _
 
 pub sum-operands-spec : {M : Type 1} → statement M
 sum-operands-spec =
