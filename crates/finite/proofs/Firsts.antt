@@ -89,7 +89,8 @@ module _ {A : Type 0} (c n : ℕ) (f : ℕ → Option A) where
   unfolding firstAfter
   none-after e d l h = rw (lt-ltb c d l) at (none-below _ n e d h)
 
-cond-then : {A : Type 0} (b : Bool) (x : Option A) (a : A) → cond b x none ≡ some a → (b ≡ true) × (x ≡ some a)
+-- what is found under a test, found where the test passes
+pub cond-then : {A : Type 0} (b : Bool) (x : Option A) (a : A) → cond b x none ≡ some a → (b ≡ true) × (x ≡ some a)
 cond-then true x a e = (refl, e)
 cond-then false x a e = absurd (Option·none-ne-some a e)
 

@@ -5,6 +5,7 @@ pub mod Replace
 pub mod Groups
 pub mod Plane
 pub mod Sum
+pub mod Cross
 pub mod Merge
 pub mod Split
 pub mod FieldBalance

@@ -4,13 +4,14 @@ use mathlib.Core.Path.{_≡_, refl, sym, _∙_, ap, ap₂}
 use mathlib.Core.Logic.{_≢_, _↔_, ⊎-elim}
 use mathlib.Core.Bool.{Bool, true, false, _||_, not}
 use mathlib.Core.List.{List, [], _∷_, _++_, map, flatMap, List·Memᴰ, List·Memᴰ·head, List·Memᴰ·tail, List·Memᴰ·not-nil, List·Memᴰ·cases-cons, Memᴰ·cast, List·Memᴰ·append-cases}
+use mathlib.Core.Option.{some, Option·none-ne-some, Option·some-injective}
 use Prim.Native.Nat.{ℕ, zero, suc, _+_, _≤_, _<_}
 use native.Mathlib.Nat.{zero-add, add-zero, add-suc, suc-add, add-comm, not-suc-le-zero, le-of-suc-le-suc}
 use native.Mathlib.Numerals.{add-one}
 use native.Mathlib.Omega.{arith}
 use borrow.Author.Tests.{eq-eqb, eqb-true}
 use lib.Dec.{T, eqb, eqb→eq, T-not, not-T}
-use lib.ListN.{length, getD, length-append}
+use lib.ListN.{length, getD, getElem?, length-append}
 use Rattle.finite.specs.Sum.{sum, count, bit}
 use Rattle.finite.specs.Lists.{from}
 use Rattle.finite.proofs.Tests.{T-and}
@@ -24,6 +25,16 @@ module _ {A : Type 0} where
   mem-getD [] k d h = absurd (not-suc-le-zero h)
   mem-getD (x ∷ xs) zero d h = List·Memᴰ·head refl
   mem-getD (x ∷ xs) (suc k) d h = List·Memᴰ·tail (mem-getD xs k d (le-of-suc-le-suc h))
+
+  -- what stands in a place stands in the list, and the other way round
+  pub stands-mem : (xs : List A) (k : ℕ) {x : A} → getElem? xs k ≡ some x → (k < length xs) × List·Memᴰ x xs
+  stands-mem [] k {x} e = absurd (Option·none-ne-some x e)
+  stands-mem (y ∷ ys) zero {x} e = (omega arith, List·Memᴰ·head (sym (Option·some-injective y x e)))
+  stands-mem (y ∷ ys) (suc k) e = let s = stands-mem ys k e in (omega arith, List·Memᴰ·tail (s .1))
+
+  pub mem-stands : {x : A} {xs : List A} → List·Memᴰ x xs → (k : ℕ) × (getElem? xs k ≡ some x)
+  mem-stands (List·Memᴰ·head e) = (0, ap some (sym e))
+  mem-stands (List·Memᴰ·tail m) = let (k, e) = mem-stands m in (suc k, e)
 
   -- two places of such a list hold two elements
   pub distinct-getD : (xs : List A) (d : A) → Distinct xs → (k l : ℕ) → k < length xs → l < length xs → k ≢ l → getD xs k d ≢ getD xs l d

@@ -32,7 +32,7 @@ use Rattle.step_tables.proofs.Separate.{Place, left, right, Differ, Pla
 use Rattle.step_tables.proofs.Groups.{GroupDifferences, less, less-below, sum-is, same-less, level-differences}
 
 -- the matrix that serves s levels is one of the list, and s is its p
-serving-mem : (Ds : List Matrix) (s : ℕ) (D : Matrix) → serving Ds s ≡ some D → List·Memᴰ D Ds × (D .modulus ≡ s)
+pub serving-mem : (Ds : List Matrix) (s : ℕ) (D : Matrix) → serving Ds s ≡ some D → List·Memᴰ D Ds × (D .modulus ≡ s)
 unfolding serving
 serving-mem [] s D e = absurd (Option·none-ne-some D e)
 serving-mem (E ∷ Ds) s D e = pick (λ f. serving-mem Ds s D f) (eqb (E .modulus) s) refl e
@@ -117,7 +117,7 @@ module _ (Ds : List Matrix) (K S : Table) where
       (λ n. adjoined-comes a n .0)
       (List·Memᴰ·append-cases (flatMap (sumPlace Ds S) (from 0 (columns S))) m)
 
-  sources-distinct : Distinct (sumSources Ds K S)
+  pub sources-distinct : Distinct (sumSources Ds K S)
   unfolding sumSources sumPlace
   sources-distinct =
       distinct-append
@@ -155,7 +155,7 @@ module _ (plus : ℕ → ℕ → ℕ → ℕ) (Ds : List Matrix) (K S : Table) w
       (length-map (from 0 (columns K)) adjoined ∙ length-from 0 (columns K))
 
 -- a column of k has k's levels, and any other those of the column that it comes from
-source-levels : (Ds : List Matrix) (K S : Table) (Q : ℕ → Type 0) → AllLevels Q K → AllLevels Q S → (a : SumSource) → Comes Ds K S a → Q (sumLevels K a)
+pub source-levels : (Ds : List Matrix) (K S : Table) (Q : ℕ → Type 0) → AllLevels Q K → AllLevels Q S → (a : SumSource) → Comes Ds K S a → Q (sumLevels K a)
 unfolding AllLevels sumLevels
 source-levels Ds K S Q table sheet (summed j D c) p = rw (serving-mem Ds (levelsOf S j) D (p .1) .1) (sheet j (p .0))
 source-levels Ds K S Q table sheet (adjoined c) p = table c p
@@ -177,6 +177,12 @@ pub factor-positive : (n m : ℕ) {r : ℕ} → r < n * m → 0 < m
 factor-positive n zero h = absurd (not-suc-le-zero (rw mul-zero at h))
 factor-positive n (suc m) h = zero-lt-suc m
 
+-- old run i and matrix row y make run i × M + y: a count over the new runs, by old run
+pub count-runs : (n m : ℕ) (f : ℕ → ℕ → Bool) → count (n * m) (λ r. f (r / m) (r % m)) ≡ sum n (λ i. count m (f i))
+count-runs n m f =
+    count-product n m (λ r. f (r / m) (r % m))
+    ∙ sum-ext n (λ i h. count-ext m (λ y k. ap₂ f (digits-div i k) (digits-mod i k)))
+
 -- x is a and b where a is b and x is a
 both-equal : (x a b : ℕ) → (eqb x a && (eqb x b && true)) ≡ (eqb a b && (eqb x a && true))
 both-equal x a b =
@@ -192,13 +198,13 @@ module _ (plus : ℕ → ℕ → ℕ → ℕ) (group : (p : ℕ) → 0 < p → A
   shifted y (adjoined c) v = v
 
   -- a matrix that serves column j: its p, its entries and the column's levels
-  entry-below : (j c y : ℕ) (D : Matrix) → Comes Ds K S (summed j D c) → y < rowsOf Ds → D .entry y c < D .modulus
+  pub entry-below : (j c y : ℕ) (D : Matrix) → Comes Ds K S (summed j D c) → y < rowsOf Ds → D .entry y c < D .modulus
   unfolding MatrixInRange
   entry-below j c y D p h =
       let m = serving-mem Ds (levelsOf S j) D (p .1) .0 in
       below D m y c (rw (fits .equal-rows D m) h) (p .2)
 
-  level-below : (j c i : ℕ) (D : Matrix) → Comes Ds K S (summed j D c) → i < S .runs → S .cell i j < D .modulus
+  pub level-below : (j c i : ℕ) (D : Matrix) → Comes Ds K S (summed j D c) → i < S .runs → S .cell i j < D .modulus
   unfolding InRange
   level-below j c i D p h = rw (serving-mem Ds (levelsOf S j) D (p .1) .1) (range i j h (p .0))
 
@@ -227,19 +233,14 @@ module _ (plus : ℕ → ℕ → ℕ → ℕ) (group : (p : ℕ) → 0 < p → A
   entry-is i y h k (summed j D c) v p l = sum-is plus group (D .modulus) (level-below j c i D p h) (entry-below j c y D p k) l
   entry-is i y h k (adjoined c) v p l = refl
 
-  -- run i × M + y
-  value-at : (i y : ℕ) → y < rowsOf Ds → sumValue plus (rowsOf Ds) K S (i * rowsOf Ds + y) ≡ sumEntry plus K S i y
-  unfolding sumValue
-  value-at i y h = ap₂ (λ q r. sumEntry plus K S q r) (digits-div i h) (digits-mod i h)
-
   -- a count over the runs of the next sheet, row by row
   count-rows : (xs : List (Choice SumSource))
       → count (S .runs * rowsOf Ds) (λ r. chosen (sumValue plus (rowsOf Ds) K S r) xs)
       ≡ sum (rowsOf Ds) (λ y. count (S .runs) (λ i. chosen (sumEntry plus K S i y) xs))
+  unfolding sumValue
   count-rows xs =
-      count-product (S .runs) (rowsOf Ds) (λ r. chosen (sumValue plus (rowsOf Ds) K S r) xs)
-      ∙ count-exchange (S .runs) (rowsOf Ds) (λ i y. chosen (sumValue plus (rowsOf Ds) K S (i * rowsOf Ds + y)) xs)
-      ∙ sum-ext (rowsOf Ds) (λ y h. count-ext (S .runs) (λ i l. ap (λ f. chosen f xs) (value-at i y h)))
+      count-runs (S .runs) (rowsOf Ds) (λ i y. chosen (sumEntry plus K S i y) xs)
+      ∙ count-exchange (S .runs) (rowsOf Ds) (λ i y. chosen (sumEntry plus K S i y) xs)
 
   rights-shifted : (y : ℕ) (xs : List (Choice SumSource)) → rights placeOf (shifted y) xs ≡ rights placeOf asIs xs
   rights-shifted y [] = refl
@@ -419,7 +420,7 @@ module _ (plus : ℕ → ℕ → ℕ → ℕ) (group : (p : ℕ) → 0 < p → A
     two-even (adjoined c) (summed l E d) v w p q h k n = two-apart (adjoined c) (summed l E d) v w p q h k tt
     two-even (adjoined c) (adjoined d) v w p q h k n = two-apart (adjoined c) (adjoined d) v w p q h k (λ e. n (ap adjoined e))
 
-    choices-even : EvenChoices (Comes Ds K S) _≢_ (sumLevels K) (sumValue plus (rowsOf Ds) K S) (S .runs * rowsOf Ds) 2
+    pub choices-even : EvenChoices (Comes Ds K S) _≢_ (sumLevels K) (sumValue plus (rowsOf Ds) K S) (S .runs * rowsOf Ds) 2
     choices-even [] h ok = apart-even 2 even even-adjoined [] h tt
     choices-even ((a at v) ∷ []) h ok = apart-even 2 even even-adjoined ((a at v) ∷ []) h (ok .0, ok .1, tt, tt)
     choices-even ((a at v) ∷ (b at w) ∷ []) h ok = two-even a b v w (ok .0) (ok .3 .0) (ok .1) (ok .3 .1) (ok .2 .0)
@@ -432,7 +433,7 @@ module _ (plus : ℕ → ℕ → ℕ → ℕ) (group : (p : ℕ) → 0 < p → A
       group (D .modulus) (omega arith) .sums .closed l (entry-below j c y D p k)
   entry-in-range range-adjoined i y h k (adjoined c) p = range-adjoined y c (rw (fits .adjoined-runs) k) p
 
-  value-in-range : InRange K → (r : ℕ) (a : SumSource) → r < S .runs * rowsOf Ds → Comes Ds K S a → sumValue plus (rowsOf Ds) K S r a < sumLevels K a
+  pub value-in-range : InRange K → (r : ℕ) (a : SumSource) → r < S .runs * rowsOf Ds → Comes Ds K S a → sumValue plus (rowsOf Ds) K S r a < sumLevels K a
   unfolding sumValue
   value-in-range range-adjoined r a h p =
       let pos : 0 < rowsOf Ds = factor-positive (S .runs) (rowsOf Ds) h in
@@ -463,7 +464,7 @@ no-columns-in-range : (M : ℕ) → InRange (adjoinedTable M none)
 unfolding adjoinedTable InRange
 no-columns-in-range M r c h l = absurd (not-suc-le-zero l)
 
-adjoined-array : (M : ℕ) (k : Option Table) → ((K : Table) → k ≡ some K → OrthogonalArray 2 K) → OrthogonalArray 2 (adjoinedTable M k)
+pub adjoined-array : (M : ℕ) (k : Option Table) → ((K : Table) → k ≡ some K → OrthogonalArray 2 K) → OrthogonalArray 2 (adjoinedTable M k)
 unfolding adjoinedTable
 adjoined-array M none all = record { even = no-columns-even 2 M; in-range = no-columns-in-range M }
 adjoined-array M (some K) all = all K refl
