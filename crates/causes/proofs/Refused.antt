@@ -4,7 +4,7 @@ use mathlib.Core.Path.{_≡_, refl, sym, _∙_, ap, subst}
 use mathlib.Core.Logic.{inl, inr}
 use mathlib.Core.Bool.{Bool, true, false, cond}
 use mathlib.Core.List.{List, [], _∷_, _++_}
-use mathlib.Core.Option.{Option, none, some, Option·some-injective, Option·none-ne-some}
+use mathlib.Core.Option.{Option, none, some, Option·map, map-eq-some-iff, Option·some-injective, Option·none-ne-some}
 use Prim.Native.Nat.{ℕ, _+_, _≤_, _<_}
 use native.Mathlib.Omega.{arith}
 use lib.Dec.{T}
@@ -40,19 +40,20 @@ use Rattle.order_causes.proofs.Unreadable.{unreadable}
 use Rattle.order_causes.proofs.OutOfRange.{out-of-range}
 use Rattle.sheets.specs.Buffers.{Lengths, Suffices}
 use Rattle.step_tables.specs.Sheet.{smallEnough}
+use Rattle.step_tables.specs.Cross.{ValueFault, servingFault}
 use Rattle.step_tables.specs.Merge.{MemberFault}
-use Rattle.sheets.specs.Steps.{Outcome, filled, refused, proceed, provided, Operation, sum, merge, split, opening, operation, fits, wrongMember, applied, sized, afterSums, operate, firstStep, laterStep, laterSteps, allSteps}
+use Rattle.sheets.specs.Steps.{Outcome, filled, refused, proceed, provided, Operation, sum, merge, split, cross, opening, operation, fits, valueRefusal, unevenMatrix, wrongMember, applied, sized, afterSums, operate, firstStep, laterStep, laterSteps, allSteps}
 use Rattle.sheets.specs.Outcome.{rangeRefusal, tableRefusal, matrixRefusal, generatorRefusal, ingredientRefusal, ingredientsRefusal, unless, readOutcome, outcome}
 use Rattle.sheets.specs.Naming.{Does}
-use Rattle.sheets.specs.Fillable.{MeetsDefinition, Fits, Carried, LaterCarried, AllCarried, laterSheets, latest, finalSheet}
+use Rattle.sheets.specs.Fillable.{MeetsDefinition, Fits, EvenMatrices, Carried, LaterCarried, AllCarried, laterSheets, latest, finalSheet}
 use Rattle.sheets.specs.declared.answer.Refusal.{Refusal}
-use Rattle.sheets.specs.declared.answer.Refusal.the-variants.{UnevenLevel, UnevenPair, UnevenDifference, Dependent, StepNotAllowed, PartsDoNotFit, NotTheSum, TooLarge}
+use Rattle.sheets.specs.declared.answer.Refusal.the-variants.{UnevenLevel, UnevenPair, UnevenDifference, Dependent, StepNotAllowed, PartsDoNotFit, NotTheSum, TooLarge, UnevenValue}
 use Rattle.sheets.proofs.Naming.{opens-iff, does-iff}
-use Rattle.step_tables.proofs.StepQuestions.{size-decides, fault-lowest}
+use Rattle.step_tables.proofs.StepQuestions.{size-decides, fault-lowest, fault-first}
 use Rattle.sheets.proofs.OrderQuestions.{reads-whole, ingredient-decides, ingredients-decide}
-use Rattle.sheets.proofs.Carried.{refused-not-filled, first-carried, step-carried, fits-decides, sums-decide}
+use Rattle.sheets.proofs.Carried.{refused-not-filled, first-carried, step-carried, fits-decides, matrices-decide, sums-decide}
 use Rattle.sheets.proofs.Filled.{outcome-read, asked}
-use Rattle.causes.specs.Causes.{ReachesRange, ReachesPassing, ReachesSteps, ReachesIngredient, TableFails, MatrixFails, GeneratorFails, ReachesFirst, ReachesLater, NotAllowed, NotFitting, NoSum, Oversized, SheetTooLarge, Cause}
+use Rattle.causes.specs.Causes.{ReachesRange, ReachesPassing, ReachesSteps, ReachesIngredient, TableFails, MatrixFails, GeneratorFails, ReachesFirst, ReachesLater, NotAllowed, NotFitting, UnevenMatrix, NoSum, Oversized, SheetTooLarge, Cause}
 
 same-refusal : {why other : Refusal} → refused why ≡ refused other → why ≡ other
 same-refusal e = cc
@@ -152,6 +153,7 @@ data No (o : Order) : Refusal → Type 0 where
   not-fitting : (n : ℕ) → NotFitting o n → No o (PartsDoNotFit n)
   no-sum : (n r h : ℕ) → NoSum o n r h → No o (NotTheSum n r h)
   too-large : (n N m : ℕ) → SheetTooLarge o n N m → No o (TooLarge n N m)
+  uneven-value : (n i c v : ℕ) → UnevenMatrix o n i c v → No o (UnevenValue n i c v)
 
 -- question 8
 size-no : (n : ℕ) (S : Table) {why : Refusal} → sized n S ≡ refused why → Oversized S (S .runs) (columns S) × (TooLarge n (S .runs) (columns S) ≡ why)
@@ -180,9 +182,9 @@ module _ (o : Order) {why : Refusal} where
 
   -- a later step on the sheet S
   module _ (n : ℕ) (step : Step) (S : Table) (at : ReachesLater o n step S) where
-    sums-no : (f : Operation) → Does o step f → Fits f S → (x : Option MemberFault) → wrongMember f S ≡ x → afterSums n (applied f S) x ≡ refused why → No o why
+    sums-no : (f : Operation) → Does o step f → Fits f S → EvenMatrices f S → (x : Option MemberFault) → wrongMember f S ≡ x → afterSums n (applied f S) x ≡ refused why → No o why
     unfolding afterSums wrongMember Fits SheetTooLarge
-    sums-no f allowed fitting none is e =
+    sums-no f allowed fitting even none is e =
         let (large, same) = size-no n (applied f S) e in
         subst (No o) same
         (too-large n _ _
@@ -194,10 +196,11 @@ module _ (o : Order) {why : Refusal} where
           doing = f;
           allowed = allowed;
           fitting = fitting;
+          even-matrices = even;
           true-sums = sums-decide f S .0 is;
           too-large = large;
         })))
-    sums-no f allowed fitting (some fault) is e = subst (No o) (same-refusal e) (wrong f allowed fitting is)
+    sums-no f allowed fitting even (some fault) is e = subst (No o) (same-refusal e) (wrong f allowed fitting is)
       where
         wrong : (g : Operation) → Does o step g → Fits g S → wrongMember g S ≡ some fault → No o (NotTheSum n (fault .run) (fault .member-number))
         wrong (sum Ds k) allowed fitting is = absurd (Option·none-ne-some fault is)
@@ -214,9 +217,44 @@ module _ (o : Order) {why : Refusal} where
               lowest = fault-lowest p cs S fault is;
             })
         wrong (split c A) allowed fitting is = absurd (Option·none-ne-some fault is)
+        wrong (cross ds Ds k H) allowed fitting is = absurd (Option·none-ne-some fault is)
 
-    fits-no : (f : Operation) → Does o step f → (b : Bool) → fits f S ≡ b → cond b (afterSums n (applied f S) (wrongMember f S)) (refused (PartsDoNotFit n)) ≡ refused why → No o why
-    fits-no f allowed true is e = sums-no f allowed (fits-decides f S .0 (subst T (sym is) tt)) (wrongMember f S) refl e
+    -- a CROSS whose matrices are not even
+    uneven-no : (f : Operation) → Does o step f → Fits f S → unevenMatrix n f S ≡ some why → No o why
+    unfolding unevenMatrix valueRefusal Fits
+    uneven-no (sum Ds k) allowed fitting is = absurd (Option·none-ne-some why is)
+    uneven-no (merge p cs) allowed fitting is = absurd (Option·none-ne-some why is)
+    uneven-no (split c A) allowed fitting is = absurd (Option·none-ne-some why is)
+    uneven-no (cross ds Ds k H) allowed fitting is =
+        let (fault, found, same) = map-eq-some-iff (valueRefusal n ds) (servingFault Ds (S .levels)) .0 is in
+        subst (No o) same
+        (uneven-value n _ _ _
+        (record {
+          step = step;
+          sheet = S;
+          at = at;
+          numbers = ds;
+          matrices = Ds;
+          adjoined = k;
+          other = H;
+          allowed = allowed;
+          fitting = fitting;
+          fault = fault;
+          first-uneven = fault-first Ds S fault found;
+          ingredient-is = refl;
+          column-is = refl;
+          value-is = refl;
+        }))
+
+    matrices-no : (f : Operation) → Does o step f → Fits f S → (x : Option Refusal) → unevenMatrix n f S ≡ x
+        → unless x (afterSums n (applied f S) (wrongMember f S)) ≡ refused why → No o why
+    unfolding unless
+    matrices-no f allowed fitting none is e = sums-no f allowed fitting (matrices-decide n f S .0 is) (wrongMember f S) refl e
+    matrices-no f allowed fitting (some other) is e = uneven-no f allowed fitting (is ∙ ap some (same-refusal e))
+
+    fits-no : (f : Operation) → Does o step f → (b : Bool) → fits f S ≡ b
+        → cond b (unless (unevenMatrix n f S) (afterSums n (applied f S) (wrongMember f S))) (refused (PartsDoNotFit n)) ≡ refused why → No o why
+    fits-no f allowed true is e = matrices-no f allowed (fits-decides f S .0 (subst T (sym is) tt)) (unevenMatrix n f S) refl e
     fits-no f allowed false is e =
         subst (No o) (same-refusal e)
         (not-fitting n
@@ -312,6 +350,7 @@ module _ (list : List ℕ) (lengths : Lengths) (suffices : Suffices lengths) whe
   no-cause o passing (not-fitting n why) = (o, passing, why)
   no-cause o passing (no-sum n r h why) = (o, passing, why)
   no-cause o passing (too-large n N m why) = (o, passing, why)
+  no-cause o passing (uneven-value n i c v why) = (o, passing, why)
 
   -- questions 4 to 8 of an order with its entries in range
   asked-cause : (o : Order) {why : Refusal} → ReachesPassing list lengths o

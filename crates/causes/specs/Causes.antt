@@ -1,14 +1,15 @@
--- Why an order is refused: the cause of each of document 01's eleven refusals, as a condition on the list and the lengths of the buffers ("The questions,
--- in turn"). The first No refuses the order, so each cause says that the questions before it are answered Yes, and names the first failure of its own.
+-- Why an order is refused: the cause of each of document 01's eleven refusals and of 14 (02, K6), as a condition on the list and the lengths of the
+-- buffers ("The questions, in turn"). The first No refuses the order, so each cause says that the questions before it are answered Yes, and names the first failure of its own.
 use mathlib.Core.Path.{_≡_}
 use mathlib.Core.Logic.{_⊎_}
 use mathlib.Core.List.{List, _∷_, _++_}
+use mathlib.Core.Option.{Option}
 use Prim.Native.Nat.{ℕ, _+_, _≤_}
 use lib.IntN.{ℤ}
-use lib.ListN.{length}
+use lib.ListN.{length, getD}
 use Rattle.galois.specs.Arithmetic.{fieldSum, fieldProduct}
 use Rattle.counting.specs.Table.{Table, columns, tableOf}
-use Rattle.counting.specs.Matrix.{matrixOf}
+use Rattle.counting.specs.Matrix.{Matrix, matrixOf}
 use Rattle.counting.specs.Generator.{generatorOf}
 use Rattle.counting.specs.Failures.{FirstFault, FirstDifference, FirstDependence}
 use Rattle.counting.specs.declared.verdict.DependenceFault.{DependenceFault}
@@ -20,12 +21,14 @@ use Rattle.order.specs.Range.{EntriesInRange}
 use Rattle.order_causes.specs.Causes.{NotAnOrder, FirstOutOfRange}
 use Rattle.sheets.specs.Buffers.{Lengths, Suffices}
 use Rattle.step_tables.specs.Sheet.{SmallEnough}
+use Rattle.step_tables.specs.Sum.{rowsOf, adjoinedTable}
+use Rattle.step_tables.specs.Cross.{CrossFits, ValueFault, FirstUneven}
 use Rattle.step_tables.specs.Merge.{MergeFits, LowestFault}
-use Rattle.sheets.specs.Steps.{Operation, merge, applied}
+use Rattle.sheets.specs.Steps.{Operation, merge, cross, applied}
 use Rattle.sheets.specs.Naming.{Opens, Does}
-use Rattle.sheets.specs.Fillable.{MeetsDefinition, Fits, TrueSums, AllCarried, finalSheet}
+use Rattle.sheets.specs.Fillable.{MeetsDefinition, Fits, EvenMatrices, TrueSums, AllCarried, finalSheet}
 use Rattle.sheets.specs.declared.answer.Refusal.{Refusal}
-use Rattle.sheets.specs.declared.answer.Refusal.the-variants.{ShortBuffers, Unreadable, EntryOutOfRange, UnevenLevel, UnevenPair, UnevenDifference, Dependent, StepNotAllowed, PartsDoNotFit, NotTheSum, TooLarge}
+use Rattle.sheets.specs.declared.answer.Refusal.the-variants.{ShortBuffers, Unreadable, EntryOutOfRange, UnevenLevel, UnevenPair, UnevenDifference, Dependent, StepNotAllowed, PartsDoNotFit, NotTheSum, TooLarge, UnevenValue}
 
 -- ---- how far the questions are answered Yes
 
@@ -116,6 +119,25 @@ pub record NotFitting (o : Order) (n : ℕ) : Type 0 where
   pub allowed : Does o step doing
   pub unfit : Fits doing sheet → ⊥
 
+-- between questions 6 and 7 (02, K6): it is a CROSS that is allowed and fits, and value v of column c, from 1, of the matrix with number i does not
+-- stand M ÷ p times. The matrix serves the sheet, and no serving matrix before it in the step's list, no column before c in it and no value below v
+-- in the column is uneven.
+pub record UnevenMatrix (o : Order) (n i c v : ℕ) : Type 0 where
+  pub step : Step
+  pub sheet : Table
+  pub at : ReachesLater o n step sheet
+  pub numbers : List ℕ
+  pub matrices : List Matrix
+  pub adjoined : Option Table
+  pub other : Table
+  pub allowed : Does o step (cross numbers matrices adjoined other)
+  pub fitting : CrossFits matrices (adjoinedTable (rowsOf matrices) adjoined) other sheet
+  pub fault : ValueFault
+  pub first-uneven : FirstUneven matrices sheet fault
+  pub ingredient-is : i ≡ getD numbers (fault .place) 0
+  pub column-is : c ≡ fault .column + 1
+  pub value-is : v ≡ fault .value
+
 -- question 7: it is a MERGE that is allowed and fits, and in run r, the lowest, member number h, the lowest there, is not its sum
 pub record NoSum (o : Order) (n r h : ℕ) : Type 0 where
   pub step : Step
@@ -133,7 +155,7 @@ pub record Oversized (S : Table) (N m : ℕ) : Type 0 where
   pub runs-are : N ≡ S .runs
   pub columns-are : m ≡ columns S
 
--- question 8 of a later step: it is allowed, fits and merges true sums, and the sheet that it would leave is not small enough
+-- question 8 of a later step: it is allowed, fits, has even matrices where it is a CROSS, and merges true sums, and the sheet that it would leave is not small enough
 pub record LaterOversized (o : Order) (n N m : ℕ) : Type 0 where
   pub step : Step
   pub sheet : Table
@@ -141,6 +163,7 @@ pub record LaterOversized (o : Order) (n N m : ℕ) : Type 0 where
   pub doing : Operation
   pub allowed : Does o step doing
   pub fitting : Fits doing sheet
+  pub even-matrices : EvenMatrices doing sheet
   pub true-sums : TrueSums doing sheet
   pub too-large : Oversized (applied doing sheet) N m
 
@@ -149,7 +172,7 @@ unfoldable pub SheetTooLarge : Order → ℕ → ℕ → ℕ → Type 0
 SheetTooLarge o n N m =
     ((step : Step) × (S : Table) × ReachesFirst o n step × Opens o step S × Oversized S N m) ⊎ LaterOversized o n N m
 
--- ---- the eleven causes
+-- ---- the causes
 
 unfoldable pub Cause : List ℕ → Lengths → Refusal → Type 0
 Cause list lengths ShortBuffers = Suffices lengths → ⊥
@@ -165,3 +188,4 @@ Cause list lengths (StepNotAllowed n) = (o : Order) × ReachesSteps list lengths
 Cause list lengths (PartsDoNotFit n) = (o : Order) × ReachesSteps list lengths o × NotFitting o n
 Cause list lengths (NotTheSum n r h) = (o : Order) × ReachesSteps list lengths o × NoSum o n r h
 Cause list lengths (TooLarge n N m) = (o : Order) × ReachesSteps list lengths o × SheetTooLarge o n N m
+Cause list lengths (UnevenValue n i c v) = (o : Order) × ReachesSteps list lengths o × UnevenMatrix o n i c v

@@ -4,7 +4,8 @@ ghost use Rattle.sheets.specs.Refusals.{numbered, answerNumbers, answerSpare};
 use sheets::answer::Answer;
 use sheets::answer::Refusal;
 
-// A refusal in numbers: that of document 01, and its six details. Here i is an ingredient, c and d are columns or factors, x and y levels.
+// A refusal in numbers: that of document 01 or of 02, K6, and its six details. Here i is an ingredient, c and d are columns or factors, x and y
+// levels, v a value.
 pub fn numbers_of(why: Refusal) -> [usize; 7]
     ensures { λ r. ⌜ r ≡ numbered why ⌝ }
 {
@@ -47,6 +48,12 @@ pub fn numbers_of(why: Refusal) -> [usize; 7]
             runs,
             columns,
         } => [11, step, runs, columns, 0, 0, 0],
+        Refusal::UnevenValue {
+            step,
+            ingredient: i,
+            column: c,
+            value: v,
+        } => [14, step, i, c, v, 0, 0],
     }
 }
 

@@ -14,7 +14,7 @@ use Rattle.finite.specs.Sum.{count}
 use Rattle.finite.proofs.Counts.{count-ext}
 use Rattle.finite.proofs.Tests.{T-and}
 use Rattle.counting.specs.Table.{Table, columns, levelsOf, shows, times, combinations, Apart, Settings, InRange, Even}
-use Rattle.sheets.specs.Refusals.{refusalNumber, answerNumbers}
+use Rattle.sheets.specs.Refusals.{refusalNumber, RefusesOrders, answerNumbers}
 use Rattle.step_tables.specs.Sheet.{Sound, SmallEnough}
 use Rattle.spare.specs.Spare.{spareOf, spare}
 use Rattle.spare.proofs.Rao.{spare-never-negative}
@@ -28,7 +28,7 @@ use Rattle.sheets.specs.declared.answer.Answer.the-variants.{Filled, Refused}
 use Rattle.sheets.proofs.Carried.{refused-not-filled}
 use Rattle.sheets.proofs.NonEmpty.{NonEmpty}
 use Rattle.sheets.proofs.Filled.{filled-fillable, fillable-filled, filled-sound, filled-some}
-use Rattle.sheets.proofs.Numbers.{number-of-eleven}
+use Rattle.sheets.proofs.Numbers.{number-known}
 use Rattle.causes.specs.Causes.{Cause}
 use Rattle.causes.proofs.Refused.{refused-cause}
 use Rattle.layout.specs.Bytes.{runsOf, zeros, padded, Holds, Zeros, lengthsOf, LongEnough}
@@ -224,8 +224,8 @@ module _ (list table levels scratch : List ℕ) (answer : Answer) (table′ leve
       (subst (λ k. P (S .runs) k spared) many (subst (P (S .runs) (columns S)) spare-is (each S holds sound (filled-some list done))))
 
   refused-for : (why : Refusal) → answer ≡ Refused why
-      → ((1 ≤ refusalNumber why) × (refusalNumber why ≤ 11)) × Cause list (lengthsOf table levels scratch) why
-  refused-for why e = (number-of-eleven why, refused-planned list table levels scratch (refused-answer _ (sym answered ∙ e)))
+      → RefusesOrders (refusalNumber why) × Cause list (lengthsOf table levels scratch) why
+  refused-for why e = (number-known why, refused-planned list table levels scratch (refused-answer _ (sym answered ∙ e)))
 
   in-numbers : answerNumbers answer ≡ plannedNumbers (planned list (length table) (length levels) (length scratch))
   in-numbers = ap answerNumbers answered ∙ outcome-numbers (planned list (length table) (length levels) (length scratch))

@@ -2,26 +2,21 @@
 use mathlib.Core.Path.{_≡_, refl, ap, subst}
 use mathlib.Core.List.{List}
 use Prim.Native.Nat.{ℕ}
-use native.Mathlib.Omega.{arith}
 use lib.IntN.{ℤ, pos}
 use lib.ListN.{getD}
 use Rattle.sheets.specs.Refusals.{numbered, answerNumbers, answerSpare}
 use Rattle.sheets.specs.declared.answer.Refusal.{Refusal}
 use Rattle.sheets.specs.declared.answer.Answer.{Answer}
 use Rattle.sheets.specs.declared.answer.Answer.the-variants.{Filled, Refused}
-use Rattle.sheets.proofs.Numbers.{number-of-eleven}
+use Rattle.sheets.proofs.Numbers.{number-not-zero}
 use Rattle.promise.specs.Promise.{Promise}
 use Rattle.promise.specs.PromiseInNumbers.{answerFrom, PromiseInNumbers}
 
--- no refusal has the number 0
-refusal-not-zero : (why : Refusal) → getD (numbered why) 0 0 ≡ 0 → ⊥
-refusal-not-zero why e = omega (arith, number-of-eleven why)
-
--- so 0 is a filled order, of the size that the next two numbers say, and of the spare degrees beside them
+-- no refusal has the number 0, so that 0 is a filled order, of the size that the next two numbers say, and of the spare degrees beside them
 zero-filled : (a : Answer) → getD (answerNumbers a) 0 0 ≡ 0 → a ≡ Filled (getD (answerNumbers a) 1 0) (getD (answerNumbers a) 2 0) (answerSpare a)
 unfolding answerNumbers answerSpare
 zero-filled (Filled N m spared) e = refl
-zero-filled (Refused why) e = absurd (refusal-not-zero why e)
+zero-filled (Refused why) e = absurd (number-not-zero why e)
 
 filled-zero : (a : Answer) (N m : ℕ) (spared : ℤ) → a ≡ Filled N m spared → getD (answerNumbers a) 0 0 ≡ 0
 unfolding answerNumbers

@@ -12,7 +12,7 @@ use lib.Signed.{_≤ℤ_}
 use Rattle.finite.specs.Sum.{count}
 use Rattle.counting.specs.Table.{Table, columns}
 use Rattle.spare.specs.Spare.{spareOf, spare}
-use Rattle.sheets.specs.Refusals.{numbered, refusalNumber, answerNumbers}
+use Rattle.sheets.specs.Refusals.{numbered, refusalNumber, RefusesOrders, answerNumbers}
 use Rattle.sheets.specs.Steps.{Outcome, filled, refused}
 use Rattle.sheets.specs.Outcome.{outcome}
 use Rattle.sheets.specs.Fillable.{Fillable, orderedTable}
@@ -100,8 +100,8 @@ pub record Promise (list table levels scratch : List ℕ) (answer : Answer) (tab
   pub even : (N m : ℕ) (spared : ℤ) → answer ≡ Filled N m spared → EvenBytes N m table′ levels′
   -- and whose spare degrees are answered
   pub spare-is : (N m : ℕ) (spared : ℤ) → answer ≡ Filled N m spared → SpareDegrees N m spared levels′
-  -- a refusal is one of the eleven, its number is 01's, and its cause holds: the first No, with all that its details name
+  -- a refusal's number is one of 01's eleven or 14, and its cause holds: the first No, with all that its details name
   pub refused-for : (why : Refusal) → answer ≡ Refused why
-      → ((1 ≤ refusalNumber why) × (refusalNumber why ≤ 11)) × Cause list (lengthsOf table levels scratch) why
+      → RefusesOrders (refusalNumber why) × Cause list (lengthsOf table levels scratch) why
   -- in numbers, the answer is 01's number and values: 0 with runs and columns for a filled order, or the refusal's
   pub in-numbers : answerNumbers answer ≡ plannedNumbers (planned list (length table) (length levels) (length scratch))

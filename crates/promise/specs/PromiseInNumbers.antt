@@ -2,10 +2,10 @@
 use mathlib.Core.Path.{_≡_}
 use mathlib.Core.Logic.{_↔_}
 use mathlib.Core.List.{List}
-use Prim.Native.Nat.{ℕ, _≤_}
+use Prim.Native.Nat.{ℕ}
 use lib.IntN.{ℤ, pos}
 use lib.ListN.{length, getD}
-use Rattle.sheets.specs.Refusals.{numbered, answerNumbers, answerSpare}
+use Rattle.sheets.specs.Refusals.{numbered, RefusesOrders, answerNumbers, answerSpare}
 use Rattle.sheets.specs.Fillable.{Fillable}
 use Rattle.sheets.specs.declared.answer.Refusal.{Refusal}
 use Rattle.sheets.specs.declared.answer.Answer.{Answer}
@@ -31,6 +31,6 @@ pub record PromiseInNumbers (list table levels scratch : List ℕ) (number : ℕ
   pub even : number ≡ 0 → EvenBytes (getD numbers 1 0) (getD numbers 2 0) table′ levels′
   -- and the signed number its spare degrees
   pub spare-is : number ≡ 0 → SpareDegrees (getD numbers 1 0) (getD numbers 2 0) spared levels′
-  -- any other number is one of 1 to 11, the seven are those of a refusal whose cause holds, and the signed one is 0
+  -- any other number is one of 1 to 11 or 14, the seven are those of a refusal whose cause holds, and the signed one is 0
   pub refused-for : (number ≡ 0 → ⊥)
-      → ((1 ≤ number) × (number ≤ 11)) × (spared ≡ pos 0) × ((why : Refusal) × (numbers ≡ numbered why) × Cause list (lengthsOf table levels scratch) why)
+      → RefusesOrders number × (spared ≡ pos 0) × ((why : Refusal) × (numbers ≡ numbered why) × Cause list (lengthsOf table levels scratch) why)

@@ -16,7 +16,7 @@ use Rattle.step_tables.specs.Sheet.{fromSources, takeStep, smallEnough}
 use Rattle.step_tables.specs.Merge.{mergePlace, mergeSources, mergeLevels, mergedLevel, mergeValue, mergeStep, mergeFits, memberSum, memberFaultAt, memberFault}
 use Rattle.spare.specs.Spare.{degrees, spareOf}
 use Rattle.sheets.specs.Ingredients.{asTable, listed, tableNamed}
-use Rattle.sheets.specs.Steps.{proceed, provided, opening, operation, fits, wrongMember, applied, sized, afterSums, operate, firstStep, laterStep, laterSteps, allSteps}
+use Rattle.sheets.specs.Steps.{proceed, provided, opening, operation, fits, unevenMatrix, wrongMember, applied, sized, afterSums, operate, firstStep, laterStep, laterSteps, allSteps}
 use Rattle.sheets.specs.Outcome.{rangeRefusal, ingredientRefusal, ingredientsRefusal, unless, readOutcome, outcome}
 use Rattle.sheets.proofs.Starred.{Example, computed, examples, starred}
 use Rattle.words.specs.Words.{isGap, words, isDigit, decimal, isNumber, reading}
@@ -32,7 +32,7 @@ abbrev pub lines : List ℕ
 lines = 52 ∷ 32 ∷ 49 ∷ 32 ∷ 48 ∷ 10 ∷ 52 ∷ 10 ∷ 48 ∷ 10 ∷ 49 ∷ 10 ∷ 50 ∷ 10 ∷ 51 ∷ 10 ∷ []
 
 pub printed-example : output input ≡ lines
-unfolding bind flatMap first from tableOf houseTable houseOf house101 allowed reader.numbers readIngredient readNaming readSum readMerge readSplit readStep readParts readOrder ingredientRange rangeOf fromSources takeStep smallEnough mergePlace mergeSources mergeLevels mergedLevel mergeValue mergeStep mergeFits memberSum memberFaultAt memberFault asTable listed tableNamed proceed provided opening operation fits wrongMember applied sized afterSums operate firstStep laterStep laterSteps allSteps rangeRefusal ingredientRefusal ingredientsRefusal unless readOutcome outcome isGap words isDigit decimal isNumber reading decimalDigits signedDigits line header printed degrees spareOf outcomePrinted output
+unfolding bind flatMap first from tableOf houseTable houseOf house101 allowed reader.numbers readIngredient readNaming readSum readMerge readSplit readStep readParts readOrder ingredientRange rangeOf fromSources takeStep smallEnough mergePlace mergeSources mergeLevels mergedLevel mergeValue mergeStep mergeFits memberSum memberFaultAt memberFault asTable listed tableNamed proceed provided opening operation fits unevenMatrix wrongMember applied sized afterSums operate firstStep laterStep laterSteps allSteps rangeRefusal ingredientRefusal ingredientsRefusal unless readOutcome outcome isGap words isDigit decimal isNumber reading decimalDigits signedDigits line header printed degrees spareOf outcomePrinted output
 printed-example = refl
 
 -- the starred examples through the outcome, and this one as it is printed, as one statement

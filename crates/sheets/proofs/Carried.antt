@@ -4,7 +4,7 @@ use mathlib.Core.Path.{_≡_, refl, _∙_, ap}
 use mathlib.Core.Logic.{_↔_}
 use mathlib.Core.Bool.{Bool, true, false, cond}
 use mathlib.Core.List.{List, [], _∷_}
-use mathlib.Core.Option.{Option, none, some}
+use mathlib.Core.Option.{Option, none, some, Option·map, Option·some-ne-none}
 use Prim.Native.Nat.{ℕ, _+_}
 use native.Mathlib.Omega.{arith}
 use lib.Dec.{T}
@@ -13,11 +13,11 @@ use Rattle.order.specs.Order.{Step, Order}
 use Rattle.step_tables.specs.Sheet.{SmallEnough, smallEnough}
 use Rattle.step_tables.specs.Sum.{rowsOf, adjoinedTable}
 use Rattle.step_tables.specs.Merge.{MemberFault}
-use Rattle.sheets.specs.Steps.{Outcome, filled, refused, proceed, provided, Operation, sum, merge, split, opening, operation, fits, wrongMember, applied, sized, afterSums, operate, firstStep, laterStep, laterSteps, allSteps}
-use Rattle.sheets.specs.Fillable.{Fits, TrueSums, Opened, Carried, LaterCarried, AllCarried, laterSheets, latest, finalSheet}
+use Rattle.sheets.specs.Steps.{Outcome, filled, refused, proceed, provided, unless, Operation, sum, merge, split, cross, opening, operation, fits, unevenMatrix, wrongMember, applied, sized, afterSums, operate, firstStep, laterStep, laterSteps, allSteps}
+use Rattle.sheets.specs.Fillable.{Fits, EvenMatrices, TrueSums, Opened, Carried, LaterCarried, AllCarried, laterSheets, latest, finalSheet}
 use Rattle.sheets.specs.declared.answer.Refusal.{Refusal}
 use Rattle.sheets.proofs.Naming.{opens-iff, does-iff}
-use Rattle.step_tables.proofs.StepQuestions.{size-decides, split-decides, merge-decides, members-decide, sum-decides}
+use Rattle.step_tables.proofs.StepQuestions.{size-decides, split-decides, merge-decides, members-decide, sum-decides, cross-decides, values-decide}
 
 -- ---- outcomes
 
@@ -55,6 +55,15 @@ filled-proceed : {x : Outcome} {S : Table} (next : Table → Outcome) → x ≡ 
 unfolding proceed
 filled-proceed next e = ap (λ y. proceed y next) e
 
+pub unless-filled : (x : Option Refusal) (next : Outcome) {F : Table} → unless x next ≡ filled F → (x ≡ none) × (next ≡ filled F)
+unfolding unless
+unless-filled none next e = (refl, e)
+unless-filled (some why) next e = absurd (refused-not-filled e)
+
+pub filled-unless : {x : Option Refusal} (next : Outcome) → x ≡ none → unless x next ≡ next
+unfolding unless
+filled-unless next e = ap (λ y. unless y next) e
+
 -- ---- questions 6 to 8
 
 pub fits-decides : (f : Operation) (S : Table) → T (fits f S) ↔ Fits f S
@@ -62,12 +71,28 @@ unfolding fits Fits
 fits-decides (sum Ds k) S = sum-decides Ds (adjoinedTable (rowsOf Ds) k) S
 fits-decides (merge p cs) S = merge-decides p cs S
 fits-decides (split c T) S = split-decides c T S
+fits-decides (cross ds Ds k H) S = cross-decides Ds (adjoinedTable (rowsOf Ds) k) H S
+
+map-none : {A B : Type 0} (f : A → B) (x : Option A) → (Option·map f x ≡ none) ↔ (x ≡ none)
+map-none f none = (λ e. refl, λ e. refl)
+map-none f (some a) = (λ e. absurd (Option·some-ne-none (f a) e), λ e. absurd (Option·some-ne-none a e))
+
+pub matrices-decide : (n : ℕ) (f : Operation) (S : Table) → (unevenMatrix n f S ≡ none) ↔ EvenMatrices f S
+unfolding unevenMatrix EvenMatrices
+matrices-decide n (sum Ds k) S = (λ e. tt, λ t. refl)
+matrices-decide n (merge p cs) S = (λ e. tt, λ t. refl)
+matrices-decide n (split c T) S = (λ e. tt, λ t. refl)
+matrices-decide n (cross ds Ds k H) S = (
+  λ e. values-decide Ds S .0 (map-none _ _ .0 e),
+  λ even. map-none _ _ .1 (values-decide Ds S .1 even),
+)
 
 pub sums-decide : (f : Operation) (S : Table) → (wrongMember f S ≡ none) ↔ TrueSums f S
 unfolding wrongMember TrueSums
 sums-decide (sum Ds k) S = (λ e. tt, λ t. refl)
 sums-decide (merge p cs) S = members-decide p cs S
 sums-decide (split c T) S = (λ e. tt, λ t. refl)
+sums-decide (cross ds Ds k H) S = (λ e. tt, λ t. refl)
 
 sized-filled : (n : ℕ) (S : Table) {F : Table} → sized n S ≡ filled F → SmallEnough S × (S ≡ F)
 unfolding sized
@@ -85,18 +110,21 @@ sums-filled n next none e = (refl, e)
 sums-filled n next (some fault) e = absurd (refused-not-filled e)
 
 module _ (n : ℕ) (S : Table) (f : Operation) where
-  operate-filled : {F : Table} → operate n S f ≡ filled F → Fits f S × TrueSums f S × SmallEnough (applied f S) × (applied f S ≡ F)
+  operate-filled : {F : Table} → operate n S f ≡ filled F
+      → Fits f S × EvenMatrices f S × TrueSums f S × SmallEnough (applied f S) × (applied f S ≡ F)
   unfolding operate
   operate-filled e =
       let (t, p) = cond-filled (fits f S) _ _ e in
-      let (right, q) = sums-filled n (applied f S) (wrongMember f S) p in
-      let (small, same) = sized-filled n (applied f S) q in
-      (fits-decides f S .0 t, sums-decide f S .0 right, small, same)
+      let (even, q) = unless-filled (unevenMatrix n f S) _ p in
+      let (right, r) = sums-filled n (applied f S) (wrongMember f S) q in
+      let (small, same) = sized-filled n (applied f S) r in
+      (fits-decides f S .0 t, matrices-decide n f S .0 even, sums-decide f S .0 right, small, same)
 
-  filled-operate : Fits f S → TrueSums f S → SmallEnough (applied f S) → operate n S f ≡ filled (applied f S)
+  filled-operate : Fits f S → EvenMatrices f S → TrueSums f S → SmallEnough (applied f S) → operate n S f ≡ filled (applied f S)
   unfolding operate afterSums
-  filled-operate fitting right small =
+  filled-operate fitting even right small =
       filled-cond (fits f S) _ _ (fits-decides f S .1 fitting)
+      ∙ filled-unless _ (matrices-decide n f S .1 even)
       ∙ ap (afterSums n (applied f S)) (sums-decide f S .1 right)
       ∙ filled-sized n (applied f S) small
 
@@ -119,13 +147,14 @@ module _ (o : Order) where
   unfolding laterStep
   step-carried n S step e =
       let (f, named, p) = provided-filled (operation o step) _ _ e in
-      let (fitting, right, small, same) = operate-filled n S f p in
-      (record { doing = f; allowed = does-iff o step .0 named; fitting = fitting; true-sums = right; small-enough = small }, same)
+      let (fitting, even, right, small, same) = operate-filled n S f p in
+      (record { doing = f; allowed = does-iff o step .0 named; fitting = fitting; even-matrices = even; true-sums = right; small-enough = small }, same)
 
   carried-step : (n : ℕ) (S : Table) (step : Step) (c : Carried o S step) → laterStep o n S step ≡ filled (applied (c .doing) S)
   unfolding laterStep
   carried-step n S step c =
-      filled-provided _ (operate n S) (does-iff o step .1 (c .allowed)) ∙ filled-operate n S (c .doing) (c .fitting) (c .true-sums) (c .small-enough)
+      filled-provided _ (operate n S) (does-iff o step .1 (c .allowed))
+      ∙ filled-operate n S (c .doing) (c .fitting) (c .even-matrices) (c .true-sums) (c .small-enough)
 
   -- the same steps on one sheet under two names
   moved : (n : ℕ) {S T F : Table} (steps : List Step) → S ≡ T → laterSteps o n T steps ≡ filled F → laterSteps o n S steps ≡ filled F

@@ -20,18 +20,9 @@ use Rattle.sheets.specs.Outcome.{rangeRefusal, ingredientsRefusal, unles
 use Rattle.sheets.specs.Fillable.{Fillable, sheets, orderedTable}
 use Rattle.sheets.specs.declared.answer.Refusal.{Refusal}
 use Rattle.sheets.proofs.OrderQuestions.{reads-whole, range-asked, range-passes, ingredients-decide}
-use Rattle.sheets.proofs.Carried.{refused-not-filled, all-carried, carried-all}
+use Rattle.sheets.proofs.Carried.{refused-not-filled, unless-filled, filled-unless, all-carried, carried-all}
 use Rattle.sheets.proofs.Sheets.{sheets-sound, final-sound}
 use Rattle.sheets.proofs.NonEmpty.{NonEmpty, final-some}
-
-unless-filled : (x : Option Refusal) (next : Outcome) {F : Table} → unless x next ≡ filled F → (x ≡ none) × (next ≡ filled F)
-unfolding unless
-unless-filled none next e = (refl, e)
-unless-filled (some why) next e = absurd (refused-not-filled e)
-
-filled-unless : {x : Option Refusal} (next : Outcome) → x ≡ none → unless x next ≡ next
-unfolding unless
-filled-unless next e = ap (λ y. unless y next) e
 
 -- what question 2 answers, where the outcome is filled: an order
 order-read : (r : Parsed Order) {F : Table} → readOutcome r ≡ filled F → (o : Order) × (end : ℕ) × (r ≡ value o end)

@@ -3,7 +3,7 @@
 use mathlib.Core.Path.{_≡_, refl, sym, _∙_, ap}
 use mathlib.Core.Logic.{_↔_, _⊎_, inl, inr, ⊎-elim}
 use mathlib.Core.List.{List, [], _∷_}
-use mathlib.Core.Option.{Option, none, some, Option·map, bind-eq-some-iff, map-eq-some-iff, Option·some-injective, Option·none-ne-some}
+use mathlib.Core.Option.{Option, none, some, Option·map, bind, bind-eq-some-iff, map-eq-some-iff, Option·some-injective, Option·none-ne-some}
 use Prim.Native.Nat.{ℕ, zero, suc, _+_, _-_}
 use native.Mathlib.Numerals.{add-one}
 use native.Mathlib.Omega.{arith}
@@ -14,10 +14,10 @@ use Rattle.counting.specs.Matrix.{Matrix}
 use Rattle.counting.specs.Generator.{Generator}
 use Rattle.house.specs.House.{HouseNumber, houseOf, houseTable}
 use Rattle.house.proofs.Passing.{house-number, number-house}
-use Rattle.order.specs.Order.{Ingredient, table, matrix, generator, Step, TAKE, FIELD, SUM, MERGE, SPLIT, Order}
+use Rattle.order.specs.Order.{Ingredient, table, matrix, generator, Step, TAKE, FIELD, SUM, MERGE, SPLIT, CROSS, Order}
 use Rattle.step_tables.specs.Sheet.{takeStep}
 use Rattle.sheets.specs.Ingredients.{asTable, asMatrix, asGenerator, listed, tableNamed, matrixNamed, generatorNamed, matricesNamed, adjoinedNamed}
-use Rattle.sheets.specs.Steps.{Operation, sum, split, fieldStep, opening, operation}
+use Rattle.sheets.specs.Steps.{Operation, sum, split, cross, fieldStep, opening, operation}
 use Rattle.sheets.specs.Naming.{IsIngredient, IsTable, NamesMatrix, NamesGenerator, NamesTable, NamesMatrices, NamesAdjoined, Opens, Does}
 
 module _ (o : Order) where
@@ -166,6 +166,7 @@ module _ (o : Order) where
   opens-iff (SUM ds k) {S} = (λ e. Option·none-ne-some S e, λ n. absurd n)
   opens-iff (MERGE p cs) {S} = (λ e. Option·none-ne-some S e, λ n. absurd n)
   opens-iff (SPLIT c i) {S} = (λ e. Option·none-ne-some S e, λ n. absurd n)
+  opens-iff (CROSS ds k h) {S} = (λ e. Option·none-ne-some S e, λ n. absurd n)
 
   -- a later step does f exactly where it is allowed and f is what it does
   pub does-iff : (step : Step) {f : Operation} → (operation o step ≡ some f) ↔ Does o step f
@@ -185,4 +186,19 @@ module _ (o : Order) where
   does-iff (SPLIT c i) {f} = (
     λ e. let (A, named, same) = map-eq-some-iff (split (c - 1)) (tableNamed o i) .0 e in (A, table-iff i .0 named, same),
     λ n. map-eq-some-iff (split (c - 1)) (tableNamed o i) .1 (n .0, table-iff i .1 (n .1), n .2),
+  )
+  does-iff (CROSS ds k h) {f} = (
+    λ e.
+        let (Ds, named, rest) = bind-eq-some-iff (matricesNamed o ds) _ .0 e in
+        let (K, adjoined, last) = bind-eq-some-iff (adjoinedNamed o k) _ .0 rest in
+        let (H, other, same) = map-eq-some-iff (cross ds Ds K) (tableNamed o h) .0 last in
+        (Ds, K, H, matrices-iff ds Ds .0 named, adjoined-iff k K .0 adjoined, table-iff h .0 other, same),
+    λ n.
+        let (Ds, K, H, named, adjoined, other, same) = n in
+        bind-eq-some-iff (matricesNamed o ds) _ .1 (
+          Ds,
+          matrices-iff ds Ds .1 named,
+          bind-eq-some-iff (adjoinedNamed o k) _ .1
+              (K, adjoined-iff k K .1 adjoined, map-eq-some-iff (cross ds Ds K) (tableNamed o h) .1 (H, table-iff h .1 other, same)),
+        ),
   )

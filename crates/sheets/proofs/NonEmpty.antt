@@ -20,10 +20,11 @@ use Rattle.counting.specs.Matrix.{Matrix, matrixOf}
 use Rattle.counting.specs.Generator.{Generator, generatorOf}
 use Rattle.galois.specs.Arithmetic.{member}
 use Rattle.house.specs.House.{house101, house102, house103, house104, houseOf}
-use Rattle.order.specs.Order.{Ingredient, Step, TAKE, FIELD, SUM, MERGE, SPLIT, Order, All, IngredientLimits, StepLimits, WithinLimits}
+use Rattle.order.specs.Order.{Ingredient, Step, TAKE, FIELD, SUM, MERGE, SPLIT, CROSS, Order, All, IngredientLimits, StepLimits, WithinLimits}
 use Rattle.step_tables.specs.Sheet.{fromSources, takeStep}
 use Rattle.step_tables.specs.Field.{fieldTable}
 use Rattle.step_tables.specs.Sum.{levelSum, rowsOf, serving, adjoinedTable, summedColumns, sumStep, SumFits}
+use Rattle.step_tables.specs.Cross.{crossStep, CrossFits}
 use Rattle.step_tables.specs.Merge.{mergeStep, MergeFits}
 use Rattle.step_tables.specs.Split.{splitStep, SplitFits}
 use Rattle.sheets.specs.Steps.{Operation, fieldStep, applied}
@@ -31,6 +32,7 @@ use Rattle.sheets.specs.Naming.{IsIngredient, NamesMatrix, NamesGenerato
 use Rattle.sheets.specs.Fillable.{Fits, LaterCarried, AllCarried, laterSheets, latest, finalSheet}
 use Rattle.step_tables.proofs.Lists.{mem-getD, count-member}
 use Rattle.step_tables.proofs.Sum.{sum-columns, serving-some}
+use Rattle.step_tables.proofs.Cross.{cross-columns}
 use Rattle.step_tables.proofs.Merge.{merge-columns}
 use Rattle.step_tables.proofs.Split.{split-columns}
 use Rattle.sheets.proofs.Ingredients.{all-at}
@@ -117,6 +119,7 @@ module _ (o : Order) (limits : WithinLimits o) where
   opening-some (SUM ds k) opens = absurd opens
   opening-some (MERGE p cs) opens = absurd opens
   opening-some (SPLIT c i) opens = absurd opens
+  opening-some (CROSS ds k h) opens = absurd opens
 
   module _ (S : Table) (sheet : NonEmpty S) where
     sum-some : (ds : List ℕ) (Ds : List Matrix) (K : Option Table) → 1 ≤ length ds → NamesMatrices o ds Ds → SumFits Ds (adjoinedTable (rowsOf Ds) K) S
@@ -147,6 +150,17 @@ module _ (o : Order) (limits : WithinLimits o) where
     split-some c A part fits =
         record { runs-some = sheet .runs-some; columns-some = omega (arith, split-columns c A S fits, sheet .columns-some, part .columns-some) }
 
+    -- what CROSS leaves has SUM's columns
+    cross-some : (ds : List ℕ) (Ds : List Matrix) (K : Option Table) (H : Table) → 1 ≤ length ds → NamesMatrices o ds Ds
+        → CrossFits Ds (adjoinedTable (rowsOf Ds) K) H S → NonEmpty (crossStep levelSum Ds (adjoinedTable (rowsOf Ds) K) H S)
+    unfolding fromSources sumStep crossStep
+    cross-some ds Ds K H one named fits =
+        let summed = sum-some ds Ds K one named (fits .as-sum) in
+        record {
+          runs-some = summed .runs-some;
+          columns-some = rw (cross-columns levelSum Ds (adjoinedTable (rowsOf Ds) K) H S) (omega (arith, summed .columns-some));
+        }
+
     later-some : (step : Step) → StepLimits step → (f : Operation) → Does o step f → Fits f S → NonEmpty (applied f S)
     unfolding Does Fits applied
     later-some (TAKE i) within f does = absurd does
@@ -156,6 +170,8 @@ module _ (o : Order) (limits : WithinLimits o) where
     later-some (MERGE p cs) within f does = subst (λ g. Fits g S → NonEmpty (applied g S)) does (merge-some p _)
     later-some (SPLIT c i) within f (A, named, same) =
         subst (λ g. Fits g S → NonEmpty (applied g S)) same (split-some _ A (table-some i named))
+    later-some (CROSS ds k h) within f (Ds, K, H, named, adjoined, other, same) =
+        subst (λ g. Fits g S → NonEmpty (applied g S)) same (cross-some ds Ds K H (within .0 .0 .0) named)
 
   -- ---- all steps
 

@@ -1,20 +1,27 @@
--- The number of a refusal is one of 1 to 11. Assumes nothing.
-use Prim.Native.Nat.{_≤_}
+-- The number of a refusal of an order is one of 1 to 11, or 14 (02, K6). Assumes nothing.
+use mathlib.Core.Path.{_≡_, refl}
+use mathlib.Core.Logic.{inl, inr, ⊎-elim}
+use native.Mathlib.Omega.{arith}
 use lib.Dec.{lit≤}
-use Rattle.sheets.specs.Refusals.{numbered, refusalNumber}
+use Rattle.sheets.specs.Refusals.{numbered, refusalNumber, RefusesOrders}
 use Rattle.sheets.specs.declared.answer.Refusal.{Refusal}
-use Rattle.sheets.specs.declared.answer.Refusal.the-variants.{ShortBuffers, Unreadable, EntryOutOfRange, UnevenLevel, UnevenPair, UnevenDifference, Dependent, StepNotAllowed, PartsDoNotFit, NotTheSum, TooLarge}
+use Rattle.sheets.specs.declared.answer.Refusal.the-variants.{ShortBuffers, Unreadable, EntryOutOfRange, UnevenLevel, UnevenPair, UnevenDifference, Dependent, StepNotAllowed, PartsDoNotFit, NotTheSum, TooLarge, UnevenValue}
 
-pub number-of-eleven : (why : Refusal) → (1 ≤ refusalNumber why) × (refusalNumber why ≤ 11)
+pub number-known : (why : Refusal) → RefusesOrders (refusalNumber why)
 unfolding numbered
-number-of-eleven ShortBuffers = (lit≤ tt, lit≤ tt)
-number-of-eleven (Unreadable place) = (lit≤ tt, lit≤ tt)
-number-of-eleven (EntryOutOfRange place) = (lit≤ tt, lit≤ tt)
-number-of-eleven (UnevenLevel i c x times) = (lit≤ tt, lit≤ tt)
-number-of-eleven (UnevenPair i c d x y times) = (lit≤ tt, lit≤ tt)
-number-of-eleven (UnevenDifference i c d x times) = (lit≤ tt, lit≤ tt)
-number-of-eleven (Dependent i c d coefficients) = (lit≤ tt, lit≤ tt)
-number-of-eleven (StepNotAllowed step) = (lit≤ tt, lit≤ tt)
-number-of-eleven (PartsDoNotFit step) = (lit≤ tt, lit≤ tt)
-number-of-eleven (NotTheSum step run member) = (lit≤ tt, lit≤ tt)
-number-of-eleven (TooLarge step runs columns) = (lit≤ tt, lit≤ tt)
+number-known ShortBuffers = inl (lit≤ tt, lit≤ tt)
+number-known (Unreadable place) = inl (lit≤ tt, lit≤ tt)
+number-known (EntryOutOfRange place) = inl (lit≤ tt, lit≤ tt)
+number-known (UnevenLevel i c x times) = inl (lit≤ tt, lit≤ tt)
+number-known (UnevenPair i c d x y times) = inl (lit≤ tt, lit≤ tt)
+number-known (UnevenDifference i c d x times) = inl (lit≤ tt, lit≤ tt)
+number-known (Dependent i c d coefficients) = inl (lit≤ tt, lit≤ tt)
+number-known (StepNotAllowed step) = inl (lit≤ tt, lit≤ tt)
+number-known (PartsDoNotFit step) = inl (lit≤ tt, lit≤ tt)
+number-known (NotTheSum step run member) = inl (lit≤ tt, lit≤ tt)
+number-known (TooLarge step runs columns) = inl (lit≤ tt, lit≤ tt)
+number-known (UnevenValue step i c v) = inr refl
+
+-- so it is not 0, which stands for a filled order
+pub number-not-zero : (why : Refusal) → refusalNumber why ≡ 0 → ⊥
+number-not-zero why e = ⊎-elim (λ among. omega arith) (λ (last : refusalNumber why ≡ 14). omega arith) (number-known why)

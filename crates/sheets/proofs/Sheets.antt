@@ -1,5 +1,5 @@
--- From no sheet, every sheet on the way is an orthogonal array of strength two within the limits: TAKE and FIELD leave one, and SUM, MERGE and
--- SPLIT leave one where the sheet before is one.
+-- From no sheet, every sheet on the way is an orthogonal array of strength two within the limits: TAKE and FIELD leave one, and SUM, MERGE,
+-- SPLIT and CROSS leave one where the sheet before is one.
 -- Assumes nothing.
 use mathlib.Core.Path.{_≡_, refl, subst}
 use mathlib.Core.Bool.{Bool, _||_}
@@ -15,17 +15,18 @@ use Rattle.galois.specs.Arithmetic.{member}
 use Rattle.galois.proofs.Tests.{otherwise, among}
 use Rattle.counting.specs.Table.{Table, columns, InRange}
 use Rattle.counting.specs.Matrix.{Matrix}
-use Rattle.order.specs.Order.{Step, TAKE, FIELD, SUM, MERGE, SPLIT, Order, All, MergePrime, StepLimits, WithinLimits}
+use Rattle.order.specs.Order.{Step, TAKE, FIELD, SUM, MERGE, SPLIT, CROSS, Order, All, MergePrime, StepLimits, WithinLimits}
 use Rattle.order.specs.Range.{EntriesInRange}
 use Rattle.step_tables.specs.Sheet.{AllLevels, LevelCount, Sound, SmallEnough, takeStep}
 use Rattle.step_tables.specs.Sum.{levelSum, rowsOf, adjoinedTable}
 use Rattle.step_tables.specs.Merge.{mergePrimes}
 use Rattle.sheets.specs.Ingredients.{tableNamed, generatorNamed, matricesNamed, adjoinedNamed}
-use Rattle.sheets.specs.Steps.{filled, Operation, sum, merge, split, fieldStep, opening, operation, applied, firstStep, laterStep}
-use Rattle.sheets.specs.Fillable.{MeetsDefinition, Fits, TrueSums, LaterCarried, AllCarried, laterSheets, sheets, latest, finalSheet}
+use Rattle.sheets.specs.Steps.{filled, Operation, sum, merge, split, cross, fieldStep, opening, operation, applied, firstStep, laterStep}
+use Rattle.sheets.specs.Fillable.{MeetsDefinition, Fits, EvenMatrices, TrueSums, LaterCarried, AllCarried, laterSheets, sheets, latest, finalSheet}
 use Rattle.sheets.proofs.Naming.{opens-iff, does-iff}
 use Rattle.sheets.proofs.Carried.{first-carried, step-carried}
 use Rattle.step_tables.proofs.Sum.{sum-leaves, sum-levels}
+use Rattle.step_tables.proofs.Cross.{cross-leaves, cross-levels}
 use Rattle.step_tables.proofs.Merge.{merge-leaves, merge-levels}
 use Rattle.step_tables.proofs.Split.{split-leaves, split-levels}
 use Rattle.sheets.proofs.Ingredients.{table-sound, matrices-passing, generator-sound, adjoined-sound}
@@ -80,16 +81,17 @@ module _ (o : Order) (limits : WithinLimits o) (range : EntriesInRange o) (passi
   opening-sound (SUM ds k) S e = absurd (Option·none-ne-some S e)
   opening-sound (MERGE p cs) S e = absurd (Option·none-ne-some S e)
   opening-sound (SPLIT c i) S e = absurd (Option·none-ne-some S e)
+  opening-sound (CROSS ds k h) S e = absurd (Option·none-ne-some S e)
 
   module _ (S : Table) (sheet : Sound S) where
     -- what is to be shown of a later step
     abbrev Keeps : Operation → Type 0
-    Keeps f = Fits f S → TrueSums f S → Sound (applied f S)
+    Keeps f = Fits f S → EvenMatrices f S → TrueSums f S → Sound (applied f S)
 
     sum-keeps : (ds : List ℕ) (k : ℕ) (Ds : List Matrix) (found : Option Table) → matricesNamed o ds ≡ some Ds → adjoinedNamed o k ≡ some found
         → Keeps (sum Ds found)
     unfolding Fits applied
-    sum-keeps ds k Ds found named adjoined fits sums =
+    sum-keeps ds k Ds found named adjoined fits even sums =
         let tables = adjoined-sound o limits range passing k found adjoined in
         record {
           array = sum-leaves Ds found S fits (matrices-passing o limits range passing ds Ds named) (λ K e. tables K e .array) (sheet .array);
@@ -98,7 +100,7 @@ module _ (o : Order) (limits : WithinLimits o) (range : EntriesInRange o) (passi
 
     merge-keeps : (p : ℕ) (cs : List ℕ) → MergePrime p → Keeps (merge p cs)
     unfolding Fits TrueSums applied
-    merge-keeps p cs within fits sums =
+    merge-keeps p cs within fits even sums =
         let prime = merge-prime p within in
         record {
           array = merge-leaves p cs S prime fits sums 2 (sheet .array);
@@ -107,11 +109,32 @@ module _ (o : Order) (limits : WithinLimits o) (range : EntriesInRange o) (passi
 
     split-keeps : (c i : ℕ) (A : Table) → tableNamed o i ≡ some A → Keeps (split c A)
     unfolding Fits applied
-    split-keeps c i A named fits sums =
+    split-keeps c i A named fits even sums =
         let part = table-sound o limits range passing i A named in
         record {
           array = split-leaves c A S fits 2 (sheet .array) (part .array);
           levels-within = split-levels c A S fits 2 (sheet .array) LevelCount (sheet .levels-within) (part .levels-within);
+        }
+
+    cross-keeps : (ds : List ℕ) (k h : ℕ) (Ds : List Matrix) (found : Option Table) (H : Table)
+        → matricesNamed o ds ≡ some Ds → adjoinedNamed o k ≡ some found → tableNamed o h ≡ some H → Keeps (cross ds Ds found H)
+    unfolding Fits EvenMatrices applied
+    cross-keeps ds k h Ds found H named adjoined other fits even sums =
+        let tables = adjoined-sound o limits range passing k found adjoined in
+        let side = table-sound o limits range passing h H other in
+        record {
+          array = cross-leaves Ds found H S fits even (matrices-passing o limits range passing ds Ds named) (λ K e. tables K e .array) (side .array) (sheet .array);
+          levels-within =
+              cross-levels
+              levelSum
+              Ds
+              (adjoinedTable (rowsOf Ds) found)
+              H
+              S
+              LevelCount
+              (adjoined-levels (rowsOf Ds) found tables)
+              (side .levels-within)
+              (sheet .levels-within);
         }
 
     -- the sheet that a later step leaves
@@ -127,6 +150,11 @@ module _ (o : Order) (limits : WithinLimits o) (range : EntriesInRange o) (passi
     later-sound (SPLIT c i) within f e =
         let (A, named, same) = map-eq-some-iff (split (c - 1)) (tableNamed o i) .0 e in
         subst Keeps same (split-keeps (c - 1) i A named)
+    later-sound (CROSS ds k h) within f e =
+        let (Ds, named, rest) = bind-eq-some-iff (matricesNamed o ds) _ .0 e in
+        let (found, adjoined, last) = bind-eq-some-iff (adjoinedNamed o k) _ .0 rest in
+        let (H, other, same) = map-eq-some-iff (cross ds Ds found) (tableNamed o h) .0 last in
+        subst Keeps same (cross-keeps ds k h Ds found H named adjoined other)
 
   -- ---- outcomes of single steps
 
@@ -142,7 +170,7 @@ module _ (o : Order) (limits : WithinLimits o) (range : EntriesInRange o) (passi
       subst
       (λ F. Sound F × SmallEnough F)
       same
-      (later-sound S sheet step within (c .doing) (does-iff o step .1 (c .allowed)) (c .fitting) (c .true-sums), c .small-enough)
+      (later-sound S sheet step within (c .doing) (does-iff o step .1 (c .allowed)) (c .fitting) (c .even-matrices) (c .true-sums), c .small-enough)
 
   -- ---- all steps
 
@@ -151,7 +179,7 @@ module _ (o : Order) (limits : WithinLimits o) (range : EntriesInRange o) (passi
   unfolding LaterCarried laterSheets
   later-sheets S sheet [] within c = tt
   later-sheets S sheet (step ∷ steps) within c =
-      let next = later-sound S sheet step (within .0) (c .0 .doing) (does-iff o step .1 (c .0 .allowed)) (c .0 .fitting) (c .0 .true-sums) in
+      let next = later-sound S sheet step (within .0) (c .0 .doing) (does-iff o step .1 (c .0 .allowed)) (c .0 .fitting) (c .0 .even-matrices) (c .0 .true-sums) in
       ((next, c .0 .small-enough), later-sheets (applied (c .0 .doing) S) next steps (within .1) (c .1))
 
   -- every sheet on the way

@@ -20,15 +20,16 @@ use Rattle.counting.specs.Verdict.{deviation, columnDeviation, pairDeviation, f
 use Rattle.counting.specs.GeneratorVerdict.{combinesToZero, dependence, generatorFault, generatorVerdict}
 use Rattle.house.specs.House.{houseTable, houseOf, house101}
 use Rattle.order.specs.Reader.{allowed, numbers}
-use Rattle.order.specs.Grammar.{tableBody, matrixBody, generatorBody, readIngredient, readNaming, readSum, readMerge, readSplit, readStep, readParts, readOrder}
+use Rattle.order.specs.Grammar.{tableBody, matrixBody, generatorBody, readIngredient, readNaming, readSum, readMerge, readSplit, readCross, readStep, readParts, readOrder}
 use Rattle.order.specs.Range.{ingredientRange, rangeOf}
 use Rattle.step_tables.specs.Sheet.{fromSources, takeStep, smallEnough}
 use Rattle.step_tables.specs.Field.{columnElements, values, fieldTable}
 use Rattle.step_tables.specs.Sum.{levelSum, rowsOf, serving, adjoinedTable, summedWith, sumPlace, sumSources, sumLevels, sumEntry, sumValue, sumStep, sumFits}
+use Rattle.step_tables.specs.Cross.{crossSources, crossLevels, crossValue, crossStep, crossFits, valueTimes, valueFaultAt, matrixFault, servedFault, servingFault}
 use Rattle.step_tables.specs.Merge.{mergePlace, mergeSources, mergeLevels, mergedLevel, mergeValue, mergeStep, mergeFits, memberSum, memberFaultAt, memberFault}
 use Rattle.sheets.specs.Refusals.{numbered}
 use Rattle.sheets.specs.Ingredients.{asTable, asMatrix, asGenerator, listed, tableNamed, matrixNamed, generatorNamed, matricesNamed, adjoinedNamed}
-use Rattle.sheets.specs.Steps.{Outcome, filled, refused, proceed, provided, fieldStep, opening, operation, fits, wrongMember, applied, sized, afterSums, operate, firstStep, laterStep, laterSteps, allSteps}
+use Rattle.sheets.specs.Steps.{Outcome, filled, refused, proceed, provided, fieldStep, opening, operation, fits, valueRefusal, unevenMatrix, wrongMember, applied, sized, afterSums, operate, firstStep, laterStep, laterSteps, allSteps}
 use Rattle.sheets.specs.Outcome.{rangeRefusal, tableRefusal, matrixRefusal, generatorRefusal, ingredientRefusal, ingredientsRefusal, unless, readOutcome, outcome}
 
 -- what is asked: a product in the field of s elements; what a list comes to; the last run of the table that it orders
@@ -112,10 +113,16 @@ examples =
     -- rows 00, 01, .., 07, 07 with p = 9: in GF(9) 0 - 8 is 4
     ∷ (order (1 ∷ 2 ∷ 9 ∷ 2 ∷ 9 ∷ 0 ∷ 0 ∷ 0 ∷ 1 ∷ 0 ∷ 2 ∷ 0 ∷ 3 ∷ 0 ∷ 4 ∷ 0 ∷ 5 ∷ 0 ∷ 6 ∷ 0 ∷ 7 ∷ 0 ∷ 7 ∷ 1 ∷ 1 ∷ 101 ∷ [])
     gives refusal (6 ∷ 1 ∷ 1 ∷ 2 ∷ 4 ∷ 0 ∷ 0 ∷ []))
+    -- 02, K6: the levels 0 and 1, with a matrix of the column 0 1, crossed with themselves: i + y, y and i
+    ∷ (order (2 ∷ 1 ∷ 2 ∷ 1 ∷ 2 ∷ 0 ∷ 1 ∷ 2 ∷ 2 ∷ 1 ∷ 2 ∷ 0 ∷ 1 ∷ 2 ∷ 1 ∷ 1 ∷ 6 ∷ 1 ∷ 2 ∷ 1 ∷ 1 ∷ [])
+    gives runTable (2 ∷ 2 ∷ 2 ∷ []) ((0 ∷ 0 ∷ 0 ∷ []) ∷ (1 ∷ 1 ∷ 0 ∷ []) ∷ (1 ∷ 0 ∷ 1 ∷ []) ∷ (0 ∷ 1 ∷ 1 ∷ []) ∷ []))
+    -- the same with a matrix whose first column is 0 0
+    ∷ (order (2 ∷ 1 ∷ 2 ∷ 1 ∷ 2 ∷ 0 ∷ 1 ∷ 2 ∷ 2 ∷ 2 ∷ 2 ∷ 0 ∷ 0 ∷ 0 ∷ 1 ∷ 2 ∷ 1 ∷ 1 ∷ 6 ∷ 1 ∷ 2 ∷ 1 ∷ 1 ∷ [])
+    gives refusal (14 ∷ 2 ∷ 2 ∷ 1 ∷ 0 ∷ 0 ∷ 0 ∷ []))
     -- the empty list
     ∷ (order [] gives refusal (2 ∷ 0 ∷ 0 ∷ 0 ∷ 0 ∷ 0 ∷ 0 ∷ []))
     ∷ []
 
 pub starred : map (λ (e : Example). computed (e .asked)) examples ≡ map (λ (e : Example). e .expected) examples
-unfolding bind flatMap sum count every first firstAfter firstPair greatest fieldSum fieldProduct digits numeral tableOf shows times matrixOf differenceIn overField levelDifference rowDifference differences generatorOf width from factorColumns columnsOf combination deviation columnDeviation pairDeviation farthest farthestPair columnsFault pairsFault tableVerdict differenceDeviation matrixVerdict combinesToZero dependence generatorFault generatorVerdict houseTable houseOf house101 allowed numbers tableBody matrixBody generatorBody readIngredient readNaming readSum readMerge readSplit readStep readParts readOrder ingredientRange rangeOf fromSources takeStep smallEnough columnElements values fieldTable levelSum rowsOf serving adjoinedTable summedWith sumPlace sumSources sumLevels sumEntry sumValue sumStep sumFits mergePlace mergeSources mergeLevels mergedLevel mergeValue mergeStep mergeFits memberSum memberFaultAt memberFault numbered asTable asMatrix asGenerator listed tableNamed matrixNamed generatorNamed matricesNamed adjoinedNamed proceed provided fieldStep opening operation fits wrongMember applied sized afterSums operate firstStep laterStep laterSteps allSteps rangeRefusal tableRefusal matrixRefusal generatorRefusal ingredientRefusal ingredientsRefusal unless readOutcome outcome
+unfolding bind flatMap sum count every first firstAfter firstPair greatest fieldSum fieldProduct digits numeral tableOf shows times matrixOf differenceIn overField levelDifference rowDifference differences generatorOf width from factorColumns columnsOf combination deviation columnDeviation pairDeviation farthest farthestPair columnsFault pairsFault tableVerdict differenceDeviation matrixVerdict combinesToZero dependence generatorFault generatorVerdict houseTable houseOf house101 allowed numbers tableBody matrixBody generatorBody readIngredient readNaming readSum readMerge readSplit readCross readStep readParts readOrder ingredientRange rangeOf fromSources takeStep smallEnough columnElements values fieldTable levelSum rowsOf serving adjoinedTable summedWith sumPlace sumSources sumLevels sumEntry sumValue sumStep sumFits crossSources crossLevels crossValue crossStep crossFits valueTimes valueFaultAt matrixFault servedFault servingFault mergePlace mergeSources mergeLevels mergedLevel mergeValue mergeStep mergeFits memberSum memberFaultAt memberFault numbered asTable asMatrix asGenerator listed tableNamed matrixNamed generatorNamed matricesNamed adjoinedNamed proceed provided fieldStep opening operation fits valueRefusal unevenMatrix wrongMember applied sized afterSums operate firstStep laterStep laterSteps allSteps rangeRefusal tableRefusal matrixRefusal generatorRefusal ingredientRefusal ingredientsRefusal unless readOutcome outcome
 starred = refl

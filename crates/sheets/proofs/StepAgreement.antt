@@ -1,10 +1,10 @@
--- Questions 6 to 8 and the sheets that steps leave are the same for sheets and tables that agree, so the steps may be carried out on bytes.
+-- Questions 6 to 8, with that of 02, K6, and the sheets that steps leave are the same for sheets and tables that agree, so the steps may be carried out on bytes.
 -- Assumes nothing.
 use mathlib.Core.Path.{_≡_, refl, _∙_, ap, ap₂, subst}
 use mathlib.Core.Logic.{by-cases}
 use mathlib.Core.Bool.{Bool, true, false, cond, _&&_}
 use mathlib.Core.List.{List, map, flatMap, _++_, List·Memᴰ}
-use mathlib.Core.Option.{Option, none, some}
+use mathlib.Core.Option.{Option, none, some, Option·map}
 use Prim.Native.Nat.{ℕ, _+_, _-_, _*_, _/_, _%_, _<_}
 use native.Mathlib.Nat.{mod-lt, div-lt-iff-lt-mul}
 use native.Mathlib.Decide.{decLt}
@@ -21,15 +21,17 @@ use Rattle.order.specs.Order.{Step, Order}
 use Rattle.step_tables.specs.Lists.{allOf, allDifferent}
 use Rattle.step_tables.specs.Sheet.{Agree}
 use Rattle.step_tables.specs.Sum.{levelSum, modulusOf, rowsOf, serving, adjoinedTable, SumSource, summed, adjoined, summedWith, sumPlace, sumSources, sumLevels, sumEntry, sumValue, sumStep, SumFits, sumFits}
+use Rattle.step_tables.specs.Cross.{CrossSource, ofSum, following, crossSources, crossLevels, crossValue, crossStep, CrossFits, crossFits, servingFault}
 use Rattle.step_tables.specs.Merge.{memberAt, MemberFault, MergeSource, kept, merged, mergePlace, mergeSources, mergeLevels, mergedLevel, mergeValue, mergeStep, MergeFits, mergeFits, memberSum, memberFaultAt, memberFault}
 use Rattle.step_tables.specs.Split.{SplitSource, kept as unsplit, part, splitPlace, splitSources, splitLevels, splitValue, splitStep, SplitFits, splitFits}
-use Rattle.sheets.specs.Steps.{Outcome, filled, refused, provided, Operation, sum, merge, split, operation, fits, wrongMember, applied, sized, afterSums, operate, laterStep}
+use Rattle.sheets.specs.Steps.{Outcome, filled, refused, provided, unless, Operation, sum, merge, split, cross, operation, fits, valueRefusal, unevenMatrix, wrongMember, applied, sized, afterSums, operate, laterStep}
 use Rattle.sheets.specs.Fillable.{Fits}
 use Rattle.sheets.specs.declared.answer.Refusal.{Refusal}
 use Rattle.sheets.specs.declared.answer.Refusal.the-variants.{StepNotAllowed, TooLarge}
 use Rattle.step_tables.proofs.Lists.{mem-getD}
 use Rattle.sheets.proofs.Carried.{fits-decides}
 use Rattle.step_tables.proofs.Agreement.{agree-refl, agree-columns, agree-levels, agree-size, sources-agree}
+use Rattle.step_tables.proofs.Cross.{CrossComes, cross-sources-come}
 use Rattle.step_tables.proofs.Merge.{sources-stay}
 use Rattle.step_tables.proofs.Split.{sources-stay as parts-stay}
 use Rattle.step_tables.proofs.Sum.{Comes, sources-come, factor-positive}
@@ -150,16 +152,46 @@ module _ (Ds : List Matrix) {K L A B : Table} (adjoining : Agree K L) (alike : A
     sum-entry i y (summed j D c) h k comes = ap (λ x. levelSum (D .modulus) x (D .entry y c)) (alike .same-cells i j h (comes .0))
     sum-entry i y (adjoined c) h k comes = adjoining .same-cells y c (rw (fits .adjoined-runs) k) comes
 
-    sum-value : (r : ℕ) (a : SumSource) → r < A .runs * rowsOf Ds → List·Memᴰ a (sumSources Ds K A)
+    sum-value : (r : ℕ) (a : SumSource) → r < A .runs * rowsOf Ds → Comes Ds K A a
         → sumValue levelSum (rowsOf Ds) K A r a ≡ sumValue levelSum (rowsOf Ds) L B r a
     unfolding sumValue
-    sum-value r a h m =
+    sum-value r a h comes =
         let positive : 0 < rowsOf Ds = factor-positive (A .runs) (rowsOf Ds) h in
-        sum-entry (r / rowsOf Ds) (r % rowsOf Ds) a (div-lt-iff-lt-mul positive .1 h) (mod-lt r positive) (sources-come Ds K A a m)
+        sum-entry (r / rowsOf Ds) (r % rowsOf Ds) a (div-lt-iff-lt-mul positive .1 h) (mod-lt r positive) comes
 
     sum-agrees : Agree (sumStep levelSum Ds K A) (sumStep levelSum Ds L B)
     unfolding sumStep
-    sum-agrees = sources-agree (ap (λ n. n * rowsOf Ds) (alike .same-runs)) sum-sources (λ a m. sum-level a) sum-value
+    sum-agrees = sources-agree (ap (λ n. n * rowsOf Ds) (alike .same-runs)) sum-sources (λ a m. sum-level a) (λ r a h m. sum-value r a h (sources-come Ds K A a m))
+
+-- ---- CROSS
+
+module _ (Ds : List Matrix) {K L H I A B : Table} (adjoining : Agree K L) (others : Agree H I) (alike : Agree A B) where
+  cross-fits : crossFits Ds K H A ≡ crossFits Ds L I B
+  unfolding crossFits
+  cross-fits = ap₂ _&&_ (sum-fits Ds adjoining alike) (ap₂ eqb (others .same-runs) (alike .same-runs))
+
+  cross-level : (a : CrossSource) → crossLevels K H a ≡ crossLevels L I a
+  unfolding crossLevels
+  cross-level (ofSum a) = sum-level Ds adjoining alike a
+  cross-level (following c) = agree-levels others c
+
+  module _ (fits : CrossFits Ds K H A) where
+    cross-value : (r : ℕ) (a : CrossSource) → r < A .runs * rowsOf Ds → CrossComes Ds K H A a
+        → crossValue levelSum (rowsOf Ds) K H A r a ≡ crossValue levelSum (rowsOf Ds) L I B r a
+    unfolding crossValue
+    cross-value r (ofSum a) h comes = sum-value Ds adjoining alike (fits .as-sum) r a h comes
+    cross-value r (following c) h comes =
+        let old = div-lt-iff-lt-mul (factor-positive (A .runs) (rowsOf Ds) h) .1 h in
+        others .same-cells (r / rowsOf Ds) c (rw (fits .other-runs) old) comes
+
+    cross-agrees : Agree (crossStep levelSum Ds K H A) (crossStep levelSum Ds L I B)
+    unfolding crossStep crossSources
+    cross-agrees =
+        sources-agree
+        (ap (λ n. n * rowsOf Ds) (alike .same-runs))
+        (ap₂ (λ xs n. map ofSum xs ++ map following (from 0 n)) (sum-sources Ds adjoining alike) (agree-columns others))
+        (λ a m. cross-level a)
+        (λ r a h m. cross-value r a h (cross-sources-come Ds K H A a m))
 
 -- ---- any later step
 
@@ -173,6 +205,8 @@ pub data AgreeOperation : Operation → Operation → Type 0 where
   sums : (Ds : List Matrix) {k l : Option Table} → AgreeAdjoined k l → AgreeOperation (sum Ds k) (sum Ds l)
   merges : (p : ℕ) (cs : List ℕ) → AgreeOperation (merge p cs) (merge p cs)
   splits : (c : ℕ) {K L : Table} → Agree K L → AgreeOperation (split c K) (split c L)
+  crosses : (ds : List ℕ) (Ds : List Matrix) {k l : Option Table} {H I : Table} → AgreeAdjoined k l → Agree H I
+      → AgreeOperation (cross ds Ds k H) (cross ds Ds l I)
 
 agree-adjoined : (M : ℕ) {k l : Option Table} → AgreeAdjoined k l → Agree (adjoinedTable M k) (adjoinedTable M l)
 unfolding adjoinedTable
@@ -187,6 +221,7 @@ pub operation-refl : (f : Operation) → AgreeOperation f f
 operation-refl (sum Ds k) = sums Ds (adjoined-refl k)
 operation-refl (merge p cs) = merges p cs
 operation-refl (split c K) = splits c (agree-refl K)
+operation-refl (cross ds Ds k H) = crosses ds Ds (adjoined-refl k) (agree-refl H)
 
 module _ {A B : Table} (alike : Agree A B) where
   -- question 6
@@ -195,6 +230,15 @@ module _ {A B : Table} (alike : Agree A B) where
   fits-agree (sums Ds adjoining) = sum-fits Ds (agree-adjoined (rowsOf Ds) adjoining) alike
   fits-agree (merges p cs) = merge-fits p cs alike
   fits-agree (splits c parts) = split-fits c parts alike
+  fits-agree (crosses ds Ds adjoining others) = cross-fits Ds (agree-adjoined (rowsOf Ds) adjoining) others alike
+
+  -- 02, K6
+  pub matrices-agree : (n : ℕ) {f g : Operation} → AgreeOperation f g → unevenMatrix n f A ≡ unevenMatrix n g B
+  unfolding unevenMatrix
+  matrices-agree n (sums Ds adjoining) = refl
+  matrices-agree n (merges p cs) = refl
+  matrices-agree n (splits c parts) = refl
+  matrices-agree n (crosses ds Ds adjoining others) = ap (λ l. Option·map (valueRefusal n ds) (servingFault Ds l)) (alike .same-levels)
 
   -- question 7
   pub members-agree : {f g : Operation} → AgreeOperation f g → Fits f A → wrongMember f A ≡ wrongMember g B
@@ -202,6 +246,7 @@ module _ {A B : Table} (alike : Agree A B) where
   members-agree (sums Ds adjoining) fitting = refl
   members-agree (merges p cs) fitting = merge-fault p cs alike fitting
   members-agree (splits c parts) fitting = refl
+  members-agree (crosses ds Ds adjoining others) fitting = refl
 
   -- the sheets that the step leaves
   pub applied-agree : {f g : Operation} → AgreeOperation f g → Fits f A → InRange A → Agree (applied f A) (applied g B)
@@ -209,6 +254,7 @@ module _ {A B : Table} (alike : Agree A B) where
   applied-agree (sums Ds adjoining) fitting range = sum-agrees Ds (agree-adjoined (rowsOf Ds) adjoining) alike fitting
   applied-agree (merges p cs) fitting range = merge-agrees p cs alike fitting
   applied-agree (splits c parts) fitting range = split-agrees c parts alike fitting range
+  applied-agree (crosses ds Ds adjoining others) fitting range = cross-agrees Ds (agree-adjoined (rowsOf Ds) adjoining) others alike fitting
 
 -- ---- outcomes
 
@@ -236,6 +282,14 @@ unfolding afterSums
 sums-agree n none alike = sized-agree n alike
 sums-agree n (some fault) alike = both-refused _
 
+unless-agree : {x y : Option Refusal} {u v : Outcome} → x ≡ y → AgreeOutcome u v → AgreeOutcome (unless x u) (unless y v)
+unfolding unless
+unless-agree {x} {u = u} {v = v} e both = subst (λ y. AgreeOutcome (unless x u) (unless y v)) e (asked x)
+  where
+    asked : (z : Option Refusal) → AgreeOutcome (unless z u) (unless z v)
+    asked none = both
+    asked (some why) = both-refused why
+
 -- a step on sheets that agree is refused alike, or leaves sheets that agree
 pub operate-agree : (n : ℕ) {A B : Table} {f g : Operation} → Agree A B → AgreeOperation f g → InRange A → AgreeOutcome (operate n A f) (operate n B g)
 unfolding operate
@@ -243,8 +297,9 @@ operate-agree n {A} {B} {f} {g} alike step range =
     cond-agree _ _ _ _ (fits-agree alike step)
     (λ t.
     let fitting = fits-decides f A .0 t in
-    subst (λ x. AgreeOutcome (afterSums n (applied f A) (wrongMember f A)) (afterSums n (applied g B) x)) (members-agree alike step fitting)
-    (sums-agree n (wrongMember f A) (applied-agree alike step fitting range)))
+    unless-agree (matrices-agree alike n step)
+    (subst (λ x. AgreeOutcome (afterSums n (applied f A) (wrongMember f A)) (afterSums n (applied g B) x)) (members-agree alike step fitting)
+    (sums-agree n (wrongMember f A) (applied-agree alike step fitting range))))
     (both-refused _)
 
 pub provided-agree : {X : Type 0} (x : Option X) (why : Refusal) (next next′ : X → Outcome) → ((a : X) → AgreeOutcome (next a) (next′ a))

@@ -1,4 +1,4 @@
--- The conditions under which an order is filled: document 01, questions 2 to 8, stated as conditions on the list.
+-- The conditions under which an order is filled: document 01, questions 2 to 8, with that of 02, K6, stated as conditions on the list.
 use mathlib.Core.Path.{_≡_}
 use mathlib.Core.List.{List, [], _∷_}
 use Prim.Native.Nat.{ℕ, _≤_}
@@ -11,9 +11,10 @@ use Rattle.order.specs.Order.{Ingredient, table, matrix, generator, Step, Order
 use Rattle.order.specs.Range.{EntriesInRange}
 use Rattle.step_tables.specs.Sheet.{SmallEnough}
 use Rattle.step_tables.specs.Sum.{rowsOf, adjoinedTable, SumFits}
+use Rattle.step_tables.specs.Cross.{CrossFits, ServingEven}
 use Rattle.step_tables.specs.Merge.{MergeFits, MemberSums}
 use Rattle.step_tables.specs.Split.{SplitFits}
-use Rattle.sheets.specs.Steps.{Operation, sum, merge, split, applied}
+use Rattle.sheets.specs.Steps.{Operation, sum, merge, split, cross, applied}
 use Rattle.sheets.specs.Naming.{Opens, Does}
 
 -- question 4: an ingredient meets its published definition, a table at strength two
@@ -27,12 +28,21 @@ unfoldable pub Fits : Operation → Table → Type 0
 Fits (sum Ds k) S = SumFits Ds (adjoinedTable (rowsOf Ds) k) S
 Fits (merge p cs) S = MergeFits p cs S
 Fits (split c T) S = SplitFits c T S
+Fits (cross ds Ds k H) S = CrossFits Ds (adjoinedTable (rowsOf Ds) k) H S
+
+-- between questions 6 and 7 (02, K6): each value stands M ÷ p times in each column of every matrix that serves the sheet in a CROSS
+unfoldable pub EvenMatrices : Operation → Table → Type 0
+EvenMatrices (sum Ds k) S = Unit {0}
+EvenMatrices (merge p cs) S = Unit {0}
+EvenMatrices (split c T) S = Unit {0}
+EvenMatrices (cross ds Ds k H) S = ServingEven Ds S
 
 -- question 7: each MERGE member is its sum
 unfoldable pub TrueSums : Operation → Table → Type 0
 TrueSums (sum Ds k) S = Unit {0}
 TrueSums (merge p cs) S = MemberSums p cs S
 TrueSums (split c T) S = Unit {0}
+TrueSums (cross ds Ds k H) S = Unit {0}
 
 -- questions 5 and 8 of the first step: it is of kind 1 or 2, its ingredient exists with the kind wanted, and its sheet is small enough
 pub record Opened (o : Order) (step : Step) : Type 0 where
@@ -45,6 +55,7 @@ pub record Carried (o : Order) (S : Table) (step : Step) : Type 0 where
   pub doing : Operation
   pub allowed : Does o step doing
   pub fitting : Fits doing S
+  pub even-matrices : EvenMatrices doing S
   pub true-sums : TrueSums doing S
   pub small-enough : SmallEnough (applied doing S)
 

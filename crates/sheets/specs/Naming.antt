@@ -10,9 +10,9 @@ use Rattle.counting.specs.Table.{Table, tableOf}
 use Rattle.counting.specs.Matrix.{Matrix, matrixOf}
 use Rattle.counting.specs.Generator.{Generator, generatorOf}
 use Rattle.house.specs.House.{HouseNumber, houseOf}
-use Rattle.order.specs.Order.{Ingredient, table, matrix, generator, Step, TAKE, FIELD, SUM, MERGE, SPLIT, Order}
+use Rattle.order.specs.Order.{Ingredient, table, matrix, generator, Step, TAKE, FIELD, SUM, MERGE, SPLIT, CROSS, Order}
 use Rattle.step_tables.specs.Sheet.{takeStep}
-use Rattle.sheets.specs.Steps.{Operation, sum, merge, split, fieldStep}
+use Rattle.sheets.specs.Steps.{Operation, sum, merge, split, cross, fieldStep}
 
 -- ingredient number i of the list, from 1, exists and is g
 pub record IsIngredient (o : Order) (i : ℕ) (g : Ingredient) : Type 0 where
@@ -69,11 +69,15 @@ Opens o (FIELD i) S = (G : Generator) × NamesGenerator o i G × (fieldStep G �
 Opens o (SUM ds k) S = ⊥
 Opens o (MERGE p cs) S = ⊥
 Opens o (SPLIT c i) S = ⊥
+Opens o (CROSS ds k h) S = ⊥
 
--- A later step is of kind 3 to 5, each ingredient that it names exists with the kind wanted, and f is what it does. An order counts columns from 1.
+-- A later step is of kind 3 to 6, each ingredient that it names exists with the kind wanted, and f is what it does. An order counts columns from 1.
 unfoldable pub Does : Order → Step → Operation → Type 0
 Does o (TAKE i) f = ⊥
 Does o (FIELD i) f = ⊥
 Does o (SUM ds k) f = (Ds : List Matrix) × (K : Option Table) × NamesMatrices o ds Ds × NamesAdjoined o k K × (sum Ds K ≡ f)
 Does o (MERGE p cs) f = merge p (map (λ c. c - 1) cs) ≡ f
 Does o (SPLIT c i) f = (T : Table) × NamesTable o i T × (split (c - 1) T ≡ f)
+Does o (CROSS ds k h) f =
+    (Ds : List Matrix) × (K : Option Table) × (H : Table)
+    × NamesMatrices o ds Ds × NamesAdjoined o k K × NamesTable o h H × (cross ds Ds K H ≡ f)

@@ -22,6 +22,7 @@ use Rattle.order.specs.Range.{rangeOf}
 use Rattle.order.specs.declared.Entries.{Entries}
 use Rattle.order.specs.declared.Entries.the-variants.{InRange, OutOfRange, Unread}
 use Rattle.sheets.specs.Steps.{Outcome, refused, allSteps}
+unfoldable pub use Rattle.sheets.specs.Steps.{unless}
 use Rattle.sheets.specs.declared.answer.Refusal.{Refusal}
 use Rattle.sheets.specs.declared.answer.Refusal.the-variants.{Unreadable, EntryOutOfRange, UnevenLevel, UnevenPair, UnevenDifference, Dependent}
 
@@ -55,11 +56,6 @@ ingredientRefusal i (generator t s widths entries) = generatorRefusal i (generat
 unfoldable pub ingredientsRefusal : ℕ → List Ingredient → Option Refusal
 ingredientsRefusal i [] = none
 ingredientsRefusal i (g ∷ gs) = ingredientRefusal i g orElse ingredientsRefusal (i + 1) gs
-
--- a No, or else what comes of the questions after it
-unfoldable pub unless : Option Refusal → Outcome → Outcome
-unless none next = next
-unless (some why) next = refused why
 
 -- Questions 3 to 8, of an order that was read; question 2 refuses a list that does not read.
 unfoldable pub readOutcome : Parsed Order → Outcome

@@ -1,12 +1,14 @@
--- The numbers of a refusal and of an answer: document 01, "The questions, in turn".
+-- The numbers of a refusal and of an answer: document 01, "The questions, in turn", and for 14 02, K6.
+use mathlib.Core.Path.{_≡_}
+use mathlib.Core.Logic.{_⊎_}
 use mathlib.Core.List.{List, [], _∷_}
-use Prim.Native.Nat.{ℕ}
+use Prim.Native.Nat.{ℕ, _≤_}
 use lib.IntN.{ℤ, pos}
 use lib.ListN.{getD}
 use Rattle.sheets.specs.declared.answer.Answer.{Answer}
 use Rattle.sheets.specs.declared.answer.Answer.the-variants.{Filled, Refused}
 use Rattle.sheets.specs.declared.answer.Refusal.{Refusal}
-use Rattle.sheets.specs.declared.answer.Refusal.the-variants.{ShortBuffers, Unreadable, EntryOutOfRange, UnevenLevel, UnevenPair, UnevenDifference, Dependent, StepNotAllowed, PartsDoNotFit, NotTheSum, TooLarge}
+use Rattle.sheets.specs.declared.answer.Refusal.the-variants.{ShortBuffers, Unreadable, EntryOutOfRange, UnevenLevel, UnevenPair, UnevenDifference, Dependent, StepNotAllowed, PartsDoNotFit, NotTheSum, TooLarge, UnevenValue}
 
 -- 01's number of a refusal and its six details, unused ones 0
 unfoldable pub numbered : Refusal → List ℕ
@@ -21,10 +23,15 @@ numbered (StepNotAllowed step) = 8 ∷ step ∷ 0 ∷ 0 ∷ 0 ∷ 0 ∷ 0 ∷ []
 numbered (PartsDoNotFit step) = 9 ∷ step ∷ 0 ∷ 0 ∷ 0 ∷ 0 ∷ 0 ∷ []
 numbered (NotTheSum step run member) = 10 ∷ step ∷ run ∷ member ∷ 0 ∷ 0 ∷ 0 ∷ []
 numbered (TooLarge step runs columns) = 11 ∷ step ∷ runs ∷ columns ∷ 0 ∷ 0 ∷ 0 ∷ []
+numbered (UnevenValue step i c v) = 14 ∷ step ∷ i ∷ c ∷ v ∷ 0 ∷ 0 ∷ []
 
 -- the number alone
 abbrev pub refusalNumber : Refusal → ℕ
 refusalNumber why = getD (numbered why) 0 0
+
+-- the numbers by which an order may be refused: 01's eleven, and 14 (02, K6)
+abbrev pub RefusesOrders : ℕ → Type 0
+RefusesOrders n = ((1 ≤ n) × (n ≤ 11)) ⊎ (n ≡ 14)
 
 -- An answer as seven numbers: a filled order has 0 in the place of a refusal's number, and then the numbers of runs and columns.
 unfoldable pub answerNumbers : Answer → List ℕ

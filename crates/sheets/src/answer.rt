@@ -54,6 +54,13 @@ pub enum Refusal {
         runs: usize,
         columns: usize,
     },
+    // A value of a column of a matrix that serves the sheet in a CROSS (02, K6).
+    UnevenValue {
+        step: usize,
+        ingredient: usize,
+        column: usize,
+        value: usize,
+    },
 }
 
 // The size of the table that was written and its spare degrees (02, K1), or why there is none.

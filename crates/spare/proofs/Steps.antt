@@ -1,5 +1,5 @@
 -- The spare degrees through the steps, over every sheet (02, K1): MERGE leaves them as they are, for every p together; SPLIT adds those of the
--- table that is put in; SUM has N × M − 1 less the sum over the new columns.
+-- table that is put in; SUM, and CROSS (02, K6), have N × M − 1 less the sum over the new columns.
 -- Assumes nothing.
 use mathlib.Core.Path.{_≡_, refl, sym, _∙_, ap, ap₂}
 use mathlib.Core.Bool.{Bool, true, false, cond}
@@ -20,6 +20,7 @@ use Rattle.counting.specs.Table.{Table, columns, levelsOf}
 use Rattle.counting.specs.Matrix.{Matrix}
 use Rattle.step_tables.specs.Sheet.{fromSources}
 use Rattle.step_tables.specs.Sum.{rowsOf, sumStep}
+use Rattle.step_tables.specs.Cross.{crossStep}
 use Rattle.step_tables.specs.Merge.{memberAt, kept as unmerged, merged, mergePlace, mergeSources, mergeLevels, mergeStep, MergeFits}
 use Rattle.step_tables.specs.Split.{kept, part, splitPlace, splitSources, splitLevels, splitStep, SplitFits}
 use Rattle.step_tables.proofs.Lists.{measure-flatMap, count-member, member-mem, mem-member, mem-getD, map-getD}
@@ -127,3 +128,10 @@ module _ (plus : ℕ → ℕ → ℕ → ℕ) (Ds : List Matrix) (K S : Table) w
   pub sum-spare : spare (sumStep plus Ds K S) ≡ pos (S .runs * rowsOf Ds) -ℤ pos 1 -ℤ degrees (sumStep plus Ds K S .levels)
   unfolding spareOf sumStep fromSources
   sum-spare = refl
+
+-- ---- CROSS
+
+module _ (plus : ℕ → ℕ → ℕ → ℕ) (Ds : List Matrix) (K H S : Table) where
+  pub cross-spare : spare (crossStep plus Ds K H S) ≡ pos (S .runs * rowsOf Ds) -ℤ pos 1 -ℤ degrees (crossStep plus Ds K H S .levels)
+  unfolding spareOf crossStep fromSources
+  cross-spare = refl

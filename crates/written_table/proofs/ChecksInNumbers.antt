@@ -3,7 +3,6 @@
 use mathlib.Core.Path.{_≡_, refl, ap}
 use mathlib.Core.List.{List}
 use Prim.Native.Nat.{ℕ}
-use native.Mathlib.Omega.{arith}
 use lib.Dec.{lit≤}
 use lib.IntN.{ℤ}
 use lib.ListN.{getD}
@@ -20,7 +19,7 @@ use Rattle.counting.specs.declared.verdict.TableFinding.the-variants.{Passes, F
 use Rattle.counting.specs.declared.verdict.TableVerdict.{TableVerdict}
 use Rattle.sheets.specs.Outcome.{tableRefusal}
 use Rattle.sheets.specs.Refusals.{numbered}
-use Rattle.sheets.proofs.Numbers.{number-of-eleven}
+use Rattle.sheets.proofs.Numbers.{number-not-zero}
 use Rattle.question_4.specs.Passing.{passingOf}
 use Rattle.question_4.specs.declared.Passing.{Passing}
 use Rattle.question_4.specs.declared.Passing.the-variants.{AllPass, Refused}
@@ -37,7 +36,7 @@ firstOf p = getD (checkNumbers p) 0 0
 zero-passes : (p : Passing) → firstOf p ≡ 0 → p ≡ AllPass
 unfolding checkNumbers
 zero-passes AllPass e = refl
-zero-passes (Refused why) e = absurd (omega (arith, number-of-eleven why))
+zero-passes (Refused why) e = absurd (number-not-zero why e)
 
 passes-zero : (p : Passing) → p ≡ AllPass → firstOf p ≡ 0
 unfolding checkNumbers

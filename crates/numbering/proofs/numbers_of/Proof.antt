@@ -38,6 +38,9 @@ enum-known-why-9 c = search needs
 enum-known-why-10 : tie.Need-enum-known-why-10
 enum-known-why-10 c = search needs
 
+enum-known-why-11 : tie.Need-enum-known-why-11
+enum-known-why-11 c = search needs
+
 returns : tie.Need-returns
 unfolding numbered
 returns c = sym (ap numbered (c .enum-told .given .1))
@@ -82,6 +85,10 @@ returns-11 : tie.Need-returns-11
 unfolding numbered
 returns-11 c = sym (ap numbered (c .before .why10 .given .1))
 
+returns-12 : tie.Need-returns-12
+unfolding numbered
+returns-12 c = sym (ap numbered (c .before .why11 .given .1))
+
 pub numbers-of-spec : {M : Type 1} → statement M
 numbers-of-spec =
     tie.close
@@ -97,6 +104,7 @@ numbers-of-spec =
     enum-known-why-8
     enum-known-why-9
     enum-known-why-10
+    enum-known-why-11
     returns
     returns-2
     returns-3
@@ -107,4 +115,5 @@ numbers-of-spec =
     returns-8
     returns-9
     returns-10
-    returns-11)
+    returns-11
+    returns-12)
