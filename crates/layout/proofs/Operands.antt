@@ -10,7 +10,7 @@ use native.Mathlib.Omega.{arith}
 use lib.ListN.{length, getElem?}
 use denote.Enum.Declared.{tagOf}
 use Rattle.counting.specs.Table.{Table}
-use Rattle.order.specs.Order.{Order, Step, TAKE, FIELD, SUM, MERGE, SPLIT, IngredientNumber, StepLimits, writtenStep}
+use Rattle.order.specs.Order.{Order, Step, TAKE, FIELD, SUM, MERGE, SPLIT, CROSS, IngredientNumber, StepLimits, writtenStep}
 use Rattle.order.specs.Grammar.{readOrder}
 use Rattle.order.specs.Answers.{kindOf}
 use Rattle.order.proofs.Segment.{Segment, segment-in}
@@ -34,6 +34,7 @@ operand-there (FIELD i) = omega arith
 operand-there (SUM ds k) = omega arith
 operand-there (MERGE p cs) = omega arith
 operand-there (SPLIT c i) = omega arith
+operand-there (CROSS ds k h) = omega arith
 
 not-missing : (kind at : ℕ) → NoStep ≡ StepAt kind at → ⊥
 not-missing kind at e = let z : _≡_ {A = ℕ} 0 1 = cc in omega arith
@@ -76,6 +77,10 @@ module _ {list : List ℕ} (readable : Readable list) where
       stands-step stands λ place after same there limits s.
       rw there (segment-in s 1 (operand-there (operandsOf list kind at)))
 
+-- ingredients are numbered from 1
+pub number-from-one : (i : ℕ) → IngredientNumber i → 1 ≤ i
+number-from-one i h = ⊎-elim (λ w. omega arith) (λ w. omega arith) h
+
 module _ {list : List ℕ} (readable : Readable list) where
   -- ---- what the step comes to
 
@@ -96,9 +101,6 @@ module _ {list : List ℕ} (readable : Readable list) where
     operands-stand stands go = stands-step readable stands λ place after same there limits s. go place after there limits s
 
   -- ---- a table that is named
-
-  number-from-one : (i : ℕ) → IngredientNumber i → 1 ≤ i
-  number-from-one i h = ⊎-elim (λ w. omega arith) (λ w. omega arith) h
 
   module _ (i : ℕ) (number : IngredientNumber i) where
     pub named-is : tableNamed (readable .order) i ≡ someTable list (namedTable (readOrder list) i)

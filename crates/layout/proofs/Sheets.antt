@@ -37,6 +37,19 @@ module _ (table levels : List ℕ) (size : Size) (few : size .columns ≤ length
   unfolding sheetIn tableOf
   sheet-cell r c = ap (λ (m : ℕ). getD table (r * m + c) 0) (length-take-le (size .columns) levels few)
 
+  -- the sheet's cells, and as many bytes as they are
+  sheet-runs-length : length (runsOf (sheetIn table levels size)) ≡ size .runs * size .columns
+  unfolding sheetIn tableOf
+  sheet-runs-length = runs-length (sheetIn table levels size) ∙ ap (λ (m : ℕ). size .runs * m) sheet-columns
+
+  -- where nothing else lies in the buffers, they are zero after it
+  module _ (holds : Holds (sheetIn table levels size) table levels) where
+    pub held-after : Zeros (drop (size .runs * size .columns) table)
+    held-after = rw (holds .runs-first) (padded-after (length table) (size .runs * size .columns) _ sheet-runs-length)
+
+    pub held-levels-after : Zeros (drop (size .columns) levels)
+    held-levels-after = rw (holds .levels-first) (padded-after (length levels) (size .columns) _ sheet-columns)
+
 -- at most 512 runs of at most 128 columns
 pub cells-few : {runs columns : ℕ} → runs ≤ 512 → columns ≤ 128 → runs * columns ≤ 65536
 cells-few h k = mul-le-mul h k
@@ -55,16 +68,11 @@ module _ {list : List ℕ} {size : Size} {table levels scratch : List ℕ} (read
   pub ready-used : size .runs * size .columns ≤ length table
   ready-used = le-trans (cells-few ready-runs (ready .columns-most)) (ready .long .table-long)
 
-  -- the sheet's cells, and as many bytes as they are
-  sheet-runs-length : length (runsOf (sheetIn table levels size)) ≡ size .runs * size .columns
-  unfolding sheetIn tableOf
-  sheet-runs-length = runs-length (sheetIn table levels size) ∙ ap (λ (m : ℕ). size .runs * m) ready-columns
-
   pub ready-after : Zeros (drop (size .runs * size .columns) table)
-  ready-after = rw (ready .holds .runs-first) (padded-after (length table) (size .runs * size .columns) _ sheet-runs-length)
+  ready-after = held-after table levels size ready-few (ready .holds)
 
   pub ready-levels-after : Zeros (drop (size .columns) levels)
-  ready-levels-after = rw (ready .holds .levels-first) (padded-after (length levels) (size .columns) _ ready-columns)
+  ready-levels-after = held-levels-after table levels size ready-few (ready .holds)
 
 -- ---- a sheet built in a clear scratch
 
@@ -107,13 +115,30 @@ holds-agrees S table levels size holds runs-are columns-are few =
           ∙ ap₂ (λ (xs : List ℕ) (m : ℕ). getD xs (r * m + c) 0) (sym (holds .runs-first)) (sym columns-are ∙ sym (sheet-columns table levels size few));
     }
 
+-- tables of one shape with the same bytes agree
+pub bytes-agree : {A B : Table} → A .runs ≡ B .runs → A .levels ≡ B .levels → runsOf A ≡ runsOf B → Agree A B
+bytes-agree {A} {B} same-runs same-levels same-bytes =
+    record {
+      same-runs = same-runs;
+      same-levels = same-levels;
+      same-cells = λ r c h k.
+          sym (runs-cell A r c h k)
+          ∙ ap₂ (λ (xs : List ℕ) (m : ℕ). getD xs (r * m + c) 0) same-bytes (ap length same-levels)
+          ∙ runs-cell B r c (rw (← same-runs) h) (rw (← ap length same-levels) k);
+    }
+
 -- and one that agrees with it lies there too
 module _ {A B : Table} (alike : Agree A B) where
-  runs-agree : runsOf A ≡ runsOf B
-  unfolding runsOf runOf
+  pub run-agrees : (r : ℕ) → r < A .runs → runOf A r ≡ runOf B r
+  unfolding runOf
+  run-agrees r h =
+      map-below (A .cell r) (B .cell r) (columns A) (λ c k. alike .same-cells r c h k)
+      ∙ ap (λ (m : ℕ). map (B .cell r) (from 0 m)) (agree-columns alike)
+
+  pub runs-agree : runsOf A ≡ runsOf B
+  unfolding runsOf
   runs-agree =
-      flatMap-same (runOf A) (λ r. map (B .cell r) (from 0 (columns A))) (A .runs) (λ r h. map-below (A .cell r) (B .cell r) (columns A) (λ c k. alike .same-cells r c h k))
-      ∙ ap₂ (λ (m n : ℕ). flatMap (λ r. map (B .cell r) (from 0 m)) (from 0 n)) (agree-columns alike) (alike .same-runs)
+      flatMap-same (runOf A) (runOf B) (A .runs) run-agrees ∙ ap (λ (n : ℕ). flatMap (runOf B) (from 0 n)) (alike .same-runs)
 
   pub agree-holds : {table levels : List ℕ} → Holds A table levels → Holds B table levels
   agree-holds {table} {levels} holds =

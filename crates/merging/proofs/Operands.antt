@@ -13,7 +13,7 @@ use Rattle.order.specs.Order.{Between}
 use Rattle.order.proofs.Segment.{segment-fits}
 use Rattle.step_tables.specs.Sheet.{fromSources, SmallEnough, smallEnough}
 use Rattle.step_tables.specs.Merge.{MergeFits, mergeFits, memberFault, mergeStep}
-use Rattle.sheets.specs.Steps.{filled, refused, provided, merge, operation, fits, wrongMember, applied, sized, afterSums, operate, laterStep}
+use Rattle.sheets.specs.Steps.{filled, refused, provided, unless, merge, operation, fits, unevenMatrix, wrongMember, applied, sized, afterSums, operate, laterStep}
 use Rattle.sheets.specs.declared.answer.Refusal.the-variants.{PartsDoNotFit, NotTheSum, TooLarge}
 use Rattle.sheets.specs.declared.answer.Answer.{Answer}
 use Rattle.sheets.specs.declared.answer.Answer.the-variants.{Refused}
@@ -92,7 +92,7 @@ module _ (n p : ℕ) (cs : List ℕ) (table levels : List ℕ) (size : Size) whe
 
   -- question 6 looks at the level counts alone
   pub not-fitting : false ≡ mergeFits p cs (tableOf [] counted 0) → operate n sheet (merge p cs) ≡ refused (PartsDoNotFit n)
-  unfolding operate fits sheetIn mergeFits tableOf
+  unfolding unless operate fits unevenMatrix sheetIn mergeFits tableOf
   not-fitting e = ap (λ b. cond b (afterSums n (applied (merge p cs) sheet) (wrongMember (merge p cs) sheet)) (refused (PartsDoNotFit n))) (sym e)
 
   module _ (e : true ≡ mergeFits p cs (tableOf [] counted 0)) where
@@ -101,7 +101,7 @@ module _ (n p : ℕ) (cs : List ℕ) (table levels : List ℕ) (size : Size) whe
     members-fit = merge-decides p cs (tableOf table counted (size .runs)) .0 (subst T e tt)
 
     fitting : operate n sheet (merge p cs) ≡ afterSums n (mergeStep p cs sheet) (memberFault p cs sheet)
-    unfolding operate fits applied wrongMember sheetIn mergeFits tableOf
+    unfolding unless operate fits unevenMatrix applied wrongMember sheetIn mergeFits tableOf
     fitting = ap (λ b. cond b (afterSums n (mergeStep p cs sheet) (memberFault p cs sheet)) (refused (PartsDoNotFit n))) (sym e)
 
     pub not-the-sum : {run member : ℕ} → At run member ≡ memberVerdict p cs (tableOf table counted (size .runs)) .fault

@@ -14,7 +14,7 @@ use Rattle.order.specs.Grammar.{readOrder}
 use Rattle.order.proofs.Segment.{segment-in}
 use Rattle.step_tables.specs.Sheet.{AllLevels, LevelCount, SmallEnough, fromSources, smallEnough}
 use Rattle.step_tables.specs.Split.{splitFits, splitStep}
-use Rattle.sheets.specs.Steps.{filled, refused, provided, split, operation, fits, wrongMember, applied, sized, afterSums, operate, laterStep}
+use Rattle.sheets.specs.Steps.{filled, refused, provided, unless, split, operation, fits, unevenMatrix, wrongMember, applied, sized, afterSums, operate, laterStep}
 use Rattle.sheets.specs.declared.answer.Refusal.the-variants.{StepNotAllowed, PartsDoNotFit, TooLarge}
 use Rattle.ingredients.specs.Named.{namedTable, tableIn, Legible, someTable}
 use Rattle.ingredients.specs.declared.named.NamedTable.{NamedTable}
@@ -64,7 +64,7 @@ module _ {list : List ℕ} {at : ℕ} (readable : Readable list) (stands : Stand
 
         module _ (fit : splitFits (getD list at 0 - 1) (tableIn list N) S ≡ true) where
           to-size : laterIn list n S 5 at ≡ sized n (splitStep (getD list at 0 - 1) (tableIn list N) S)
-          unfolding provided operate fits wrongMember applied afterSums
+          unfolding provided unless operate fits unevenMatrix wrongMember applied afterSums
           to-size = comes-to ∙ rw (there, fit)
 
           pub over-large : S .runs ≤ 512 → 128 < columns (splitStep (getD list at 0 - 1) (tableIn list N) S)

@@ -19,7 +19,7 @@ use Rattle.counting.specs.Table.{Table, columns, tableOf}
 use Rattle.step_tables.specs.Lists.{allOf}
 use Rattle.step_tables.specs.Sheet.{fromSources}
 use Rattle.step_tables.specs.Sum.{levelSum, modulusOf, rowsOf, adjoinedTable, SumSource, adjoined, summedWith, sumPlace, sumSources, sumLevels, sumEntry, sumValue, sumStep, sumFits}
-use Rattle.sheets.specs.Steps.{sum, fits, wrongMember, applied, sized, afterSums, operate}
+use Rattle.sheets.specs.Steps.{unless, sum, fits, unevenMatrix, wrongMember, applied, sized, afterSums, operate}
 use Rattle.sheets.specs.declared.answer.Refusal.the-variants.{PartsDoNotFit}
 use Rattle.sheets.specs.declared.answer.Answer.{Answer}
 use Rattle.sheets.specs.declared.answer.Answer.the-variants.{Refused}
@@ -189,7 +189,7 @@ module _ (rows : ℕ) (Ds : List Matrix) (K : Table) (levels : List ℕ) where
       right-true false e = untrue e
 
 module _ (Ds : List Matrix) (k : Option Table) (S : Table) (rows : ℕ) (e : rowsOf Ds ≡ rows) (n : ℕ) (table levels : List ℕ) where
-  same-test : sumFits Ds (adjoinedTable rows k) S ≡ partsFit rows Ds (adjoinedTable rows k) (S .levels)
+  pub same-test : sumFits Ds (adjoinedTable rows k) S ≡ partsFit rows Ds (adjoinedTable rows k) (S .levels)
   unfolding sumFits partsFit fitTogether
   same-test = rw e
 
@@ -199,7 +199,7 @@ module _ (Ds : List Matrix) (k : Option Table) (S : Table) (rows : ℕ) (e : row
 
   pub left-fits : (answer : Answer) (table′ levels′ : List ℕ) → true ≡ partsFit rows Ds (adjoinedTable rows k) (S .levels)
       → Left (sized n (sumStep levelSum Ds (adjoinedTable rows k) S)) table levels answer table′ levels′ → Left (operate n S (sum Ds k)) table levels answer table′ levels′
-  unfolding operate fits applied wrongMember afterSums
+  unfolding unless operate fits unevenMatrix applied wrongMember afterSums
   left-fits answer table′ levels′ holds left = rw (e, same-test ∙ sym holds) left
 
 -- ---- the sheet that is built and the definition's are left alike

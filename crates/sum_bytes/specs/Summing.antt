@@ -2,28 +2,31 @@
 -- Two arrays hold, for each p, the place where the entries of the matrix that serves p start in the list, and how many columns it has: 0 where
 -- no matrix serves p.
 use mathlib.Core.Path.{_≡_}
-use mathlib.Core.Bool.{Bool, true, false, _&&_}
+use mathlib.Core.Bool.{Bool, true, false, cond, _&&_, _||_, not}
 use mathlib.Core.List.{List, _++_, map, flatMap}
 use mathlib.Core.Option.{Option, none, some}
 use Prim.Native.Nat.{ℕ, zero, suc, _+_, _*_, _/_, _%_, _≤_, _<_}
-use lib.Dec.{eqb}
+use lib.Dec.{eqb, ltb}
 use lib.ListN.{length, getD, take, drop, replicate}
 use Rattle.finite.specs.Lists.{from, AllBelow}
 use Rattle.galois.specs.Arithmetic.{member}
 use Rattle.counting.specs.Matrix.{Matrix, matrixOf}
 use Rattle.counting.specs.Table.{Table, columns, tableOf, InRange}
+use Rattle.order.specs.Order.{All}
 use Rattle.order.specs.Grammar.{readOrder}
 use Rattle.order.specs.declared.Located.{Located}
 use Rattle.order.specs.declared.Located.the-variants.{Table as TableAt, Matrix as MatrixAt, Generator as GeneratorAt, Missing as NothingAt}
-use Rattle.places.specs.Places.{ingredientAt}
+use Rattle.places.specs.Places.{ingredientAt, matricesFrom, adjoinedFrom}
 use Rattle.step_tables.specs.Lists.{allOf, allDifferent}
 use Rattle.step_tables.specs.Sum.{levelSum, modulusOf, serving}
-use Rattle.ingredients.specs.Named.{tableIn}
+use Rattle.ingredients.specs.Named.{namedTable, tableIn}
 use Rattle.ingredients.specs.declared.named.NamedTable.{NamedTable}
 use Rattle.ingredients.specs.declared.named.NamedTable.the-variants.{Own, House, Missing}
 use Rattle.layout.specs.Bytes.{runOf}
 use Rattle.layout.specs.declared.Size.{Size}
 use Rattle.sum_bytes.specs.declared.MatrixPlace.{MatrixPlace}
+use Rattle.sum_bytes.specs.declared.Summands.{Summands}
+use Rattle.sum_bytes.specs.declared.Summands.the-variants.{Missing as Unnamed, Named}
 
 -- the matrix that a look-up found, by its places in the list; any other ingredient is none
 unfoldable pub matrixPlace : Located → MatrixPlace
@@ -42,6 +45,27 @@ matrixAt list d = placedMatrix list (matrixPlace (ingredientAt (readOrder list) 
 
 unfoldable pub matricesAt : List ℕ → List ℕ → List Matrix
 matricesAt list ds = map (matrixAt list) ds
+
+-- the number names no table
+unfoldable pub isMissing : NamedTable → Bool
+isMissing (Own rows columns levelsAt entriesAt) = false
+isMissing (House number) = false
+isMissing Missing = true
+
+-- the operands of SUM from place at on, with which those of CROSS begin: r, d1 .. dr and k stand in the list, and each d is from 1 on
+pub record SumOperands (list : List ℕ) (at : ℕ) : Type 0 where
+  pub some-matrices : 1 ≤ getD list at 0
+  pub within : at + 1 + getD list at 0 < length list
+  pub numbered : All (λ d. 1 ≤ d) (matricesFrom list at)
+
+-- question 5 of these operands: each d names a matrix, and k a table or, if it is 0, none
+unfoldable pub summandsOf : List ℕ → ℕ → Summands
+summandsOf list at =
+    let k = namedTable (readOrder list) (adjoinedFrom list at) in
+    cond
+    (allOf (λ d. ltb 0 (matrixAt list d .rows)) (matricesFrom list at) && (eqb (adjoinedFrom list at) 0 || not (isMissing k)))
+    (Named k)
+    Unnamed
 
 -- question 6, of the matrices alone: equal rows and different p
 unfoldable pub fitTogether : ℕ → List Matrix → Bool
@@ -121,12 +145,6 @@ builtSheet list entries widths rows K table levels runs =
 abbrev pub nextSheet : List ℕ → List ℕ → List ℕ → ℕ → NamedTable → Size → List ℕ → List ℕ → Table
 nextSheet list entries widths rows adjoined size table levels =
     builtSheet list entries widths rows (tableIn list adjoined) table (take (size .columns) levels) (size .runs)
-
--- the number names no table
-unfoldable pub isMissing : NamedTable → Bool
-isMissing (Own rows columns levelsAt entriesAt) = false
-isMissing (House number) = false
-isMissing Missing = true
 
 -- a table that has any columns has a run for each row
 unfoldable pub Adjoins : Table → ℕ → Type 0

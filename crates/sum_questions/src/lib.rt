@@ -1,4 +1,4 @@
-// Questions 5 and 6 of step 3, SUM r, d1 .. dr, k: does each named ingredient exist with the kind wanted, and do the parts fit?
+// Question 6 of step 3, SUM r, d1 .. dr, k: do the parts fit? Step 6, CROSS, is asked the same of the operands with which it begins (02, K6).
 // The matrices are read where they stand in the list. For each p two arrays of 65 places, made once for the step, hold where the entries of the
 // matrix that serves p start in the list and how many columns it has, 0 for none.
 ghost use mathlib.Core.Path.{_≡_};
@@ -7,74 +7,16 @@ ghost use Prim.Native.Nat.{_<_};
 ghost use lib.Dec.{eqb, ltb};
 ghost use lib.ListN.{length, getD};
 ghost use Rattle.finite.specs.Lists.{AllBelow};
-ghost use Rattle.order.specs.Grammar.{readOrder};
-ghost use Rattle.places.specs.Places.{ingredientAt};
 ghost use Rattle.ingredients.specs.Named.{someTable, Legible};
 ghost use Rattle.step_tables.specs.Lists.{allOf};
 ghost use Rattle.step_tables.specs.Sum.{adjoinedTable};
 ghost use Rattle.layout.specs.Bytes.{zeros};
 ghost use Rattle.layout.specs.Step.{Readable};
-ghost use Rattle.sum_bytes.specs.Summing.{matrixPlace, matrixAt, matricesAt, fitTogether, partsFit, Serves, isMissing};
-use ingredient_places::ingredient_at;
+ghost use Rattle.sum_bytes.specs.Summing.{matricesAt, fitTogether, partsFit, Serves};
 use ingredients::named::NamedTable;
-use order::Located;
-use sum_bytes::MatrixPlace;
+use sum_operands::is_missing;
+use sum_operands::matrix_named;
 use table_sizes::run_count;
-
-// The matrix that a number names.
-pub fn matrix_named(list: &[u16], d: usize) -> MatrixPlace
-    ensures { λ r. ⌜ r ≡ matrixPlace (ingredientAt (readOrder (now (list .entry))) d) ⌝ }
-{
-    let none = MatrixPlace {
-        rows: 0,
-        columns: 0,
-        p: 0,
-        start: 0,
-    };
-    match ingredient_at(list, d) {
-        Located::Table {
-            rows: _,
-            columns: _,
-            levels_at: _,
-            entries_at: _,
-        } => none,
-        Located::Matrix {
-            rows,
-            columns,
-            p,
-            entries_at: start,
-        } => MatrixPlace {
-            rows,
-            columns,
-            p,
-            start,
-        },
-        Located::Generator {
-            t: _,
-            n: _,
-            s: _,
-            widths_at: _,
-            width: _,
-            entries_at: _,
-        } => none,
-        Located::Missing => none,
-    }
-}
-
-// Question 5, of d1 .. dr: whether each number names a matrix.
-pub fn all_name_matrices(list: &[u16], ds: &[u16]) -> bool
-    ensures { λ r. ⌜ r ≡ allOf (λ d. ltb 0 (matrixAt (now (list .entry)) d .rows)) (now (ds .entry)) ⌝ }
-{
-    let mut i = 0;
-    while i < ds.len() {
-        let named = matrix_named(list, ds[i] as usize);
-        if named.rows == 0 {
-            return false;
-        }
-        i += 1;
-    }
-    true
-}
 
 // Question 6, of the matrices alone: whether each has so many rows and a p of its own. Each is entered into the arrays at its p.
 fn serve(list: &[u16], ds: &[u16], rows: usize, entries: &mut [u16], widths: &mut [u8]) -> bool
@@ -115,22 +57,6 @@ fn all_served(levels: &[u8], widths: &[u8]) -> bool
         j += 1;
     }
     true
-}
-
-// Whether a number named no table.
-pub fn is_missing(table: NamedTable) -> bool
-    ensures { λ r. ⌜ r ≡ isMissing table ⌝ }
-{
-    match table {
-        NamedTable::Own {
-            rows: _,
-            columns: _,
-            levels_at: _,
-            entries_at: _,
-        } => false,
-        NamedTable::House { number: _ } => false,
-        NamedTable::Missing => true,
-    }
 }
 
 // Question 6, of k alone: whether it has a run for each row of the matrices, or there is none.

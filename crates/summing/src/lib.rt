@@ -8,14 +8,13 @@ ghost use Rattle.layout.specs.Bytes.{Zeros, sheetIn};
 ghost use Rattle.layout.specs.Step.{Stands, Ready, laterIn, Left};
 ghost use Rattle.sum_bytes.specs.Summing.{matrixAt, matricesAt, EntriesStand, nextSheet, Adjoins};
 use ingredients::named::NamedTable;
-use ingredients::named::table_named;
 use layout::Size;
 use sheets::answer::Answer;
 use sheets::answer::Refusal;
 use spare::sheet_answer;
-use sum_questions::all_name_matrices;
-use sum_questions::is_missing;
-use sum_questions::matrix_named;
+use sum_bytes::Summands;
+use sum_operands::matrix_named;
+use sum_operands::summands;
 use sum_questions::parts_fit;
 use summed_sheet::build;
 use summed_sheet::summed_columns;
@@ -108,25 +107,21 @@ pub fn sum(
     ensures { λ r. ⌜ Left (laterIn (now (list .entry)) number (sheetIn (now (table .entry)) (now (levels .entry)) size) 3 at) (now (table .entry)) (now (levels .entry)) r (now (table .exit)) (now (levels .exit)) ⌝ }
     ensures { λ r. ⌜ Zeros (now (scratch .exit)) ⌝ }
 {
-    let not_allowed = Answer::Refused(Refusal::StepNotAllowed { step: number });
-    let start = at + 1;
-    let end = start + list[at] as usize;
-    if !all_name_matrices(list, &list[start..end]) {
-        return not_allowed;
+    match summands(list, at) {
+        Summands::Missing => Answer::Refused(Refusal::StepNotAllowed { step: number }),
+        Summands::Named { k } => {
+            let start = at + 1;
+            let end = start + list[at] as usize;
+            fitting_sum(
+                list,
+                number,
+                &list[start..end],
+                k,
+                size,
+                table,
+                levels,
+                scratch,
+            )
+        }
     }
-    let last = list[end] as usize;
-    let k = table_named(list, last);
-    if last != 0 && is_missing(k) {
-        return not_allowed;
-    }
-    fitting_sum(
-        list,
-        number,
-        &list[start..end],
-        k,
-        size,
-        table,
-        levels,
-        scratch,
-    )
 }

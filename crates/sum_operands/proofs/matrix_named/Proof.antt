@@ -1,9 +1,9 @@
--- `sum_questions::matrix_named` meets its contract: each arm is a clause of `matrixPlace`.
+-- `sum_operands::matrix_named` meets its contract: each arm is a clause of `matrixPlace`.
 use mathlib.Core.Path.{sym, _∙_, ap}
 use borrow.Author.Needs.{needs}
 use Rattle.sum_bytes.specs.Summing.{matrixPlace}
-use Rattle.sum_questions.proofs.matrix_named.Statement.{statement}
-use Rattle.sum_questions.proofs.matrix_named.Tie as tie
+use Rattle.sum_operands.proofs.matrix_named.Statement.{statement}
+use Rattle.sum_operands.proofs.matrix_named.Tie as tie
 
 ingredient-at-requires : tie.Need-ingredient-at-requires
 ingredient-at-requires c κs = search needs

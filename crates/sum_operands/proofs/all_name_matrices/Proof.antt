@@ -1,4 +1,4 @@
--- `sum_questions::all_name_matrices` meets its contract. The invariant: the first `i` numbers name matrices.
+-- `sum_operands::all_name_matrices` meets its contract. The invariant: the first `i` numbers name matrices.
 use mathlib.Core.Path.{sym, _∙_, ap}
 use Prim.Native.Nat.{_-_}
 use native.Mathlib.Omega.{arith}
@@ -9,8 +9,8 @@ use Rattle.counting.specs.Matrix.{matrixOf}
 use Rattle.sum_bytes.specs.Summing.{placedMatrix, matrixAt}
 use Rattle.sum_bytes.specs.declared.MatrixPlace.{MatrixPlace}
 use Rattle.sum_bytes.proofs.Pieces.{PassSoFar, passing-none, passing-more, passing-all, passing-fails, positive-true, positive-false}
-use Rattle.sum_questions.proofs.all_name_matrices.Statement.{statement}
-use Rattle.sum_questions.proofs.all_name_matrices.Tie as tie
+use Rattle.sum_operands.proofs.all_name_matrices.Statement.{statement}
+use Rattle.sum_operands.proofs.all_name_matrices.Tie as tie
 
 abbrev Inv-loop : tie.InvT-loop
 Inv-loop list ds i₀ i = PassSoFar (λ d. ltb 0 (matrixAt list d .rows)) ds i

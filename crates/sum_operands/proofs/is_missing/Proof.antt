@@ -1,9 +1,9 @@
--- `sum_questions::is_missing` meets its contract: each arm is a clause of `isMissing`.
+-- `sum_operands::is_missing` meets its contract: each arm is a clause of `isMissing`.
 use mathlib.Core.Path.{sym, ap}
 use borrow.Author.Needs.{needs}
 use Rattle.sum_bytes.specs.Summing.{isMissing}
-use Rattle.sum_questions.proofs.is_missing.Statement.{statement}
-use Rattle.sum_questions.proofs.is_missing.Tie as tie
+use Rattle.sum_operands.proofs.is_missing.Statement.{statement}
+use Rattle.sum_operands.proofs.is_missing.Tie as tie
 
 enum-told : tie.Need-enum-told
 enum-told c = search needs
