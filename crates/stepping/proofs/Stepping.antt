@@ -5,14 +5,14 @@ use mathlib.Core.Logic.{_≢_, _⊎_, inl, inr, ⊎-elim, by-cases}
 use mathlib.Core.Bool.{Bool, true, false, true≢false}
 use mathlib.Core.List.{List}
 use mathlib.Core.Option.{Option, none, some}
-use Prim.Native.Nat.{ℕ, zero, suc, _-_, _≤_}
+use Prim.Native.Nat.{ℕ, zero, suc, _+_, _-_, _≤_}
 use native.Mathlib.Decide.{ℕ-discrete, decLt}
 use native.Mathlib.Omega.{arith}
 use borrow.Author.Tests.{leb-false, lt-leb, eq-eqb, ne-eqb}
 use lib.Dec.{eqb, leb, lit≤}
 use lib.ListN.{getElem?}
 use Rattle.counting.specs.Table.{Table}
-use Rattle.order.specs.Order.{Step, TAKE, FIELD, SUM, MERGE, SPLIT}
+use Rattle.order.specs.Order.{Step, TAKE, FIELD, SUM, MERGE, SPLIT, CROSS}
 use Rattle.order.specs.Reader.{when}
 use Rattle.order.specs.Answers.{kindOf}
 use Rattle.order.specs.Grammar.{readOrder}
@@ -29,21 +29,20 @@ use Rattle.stepping.specs.Stepping.{kindAllowed, stepOn, inHand, numbere
 
 -- ---- single steps of the list
 
-kinds : (s : Step) → (1 ≤ kindOf s) × (kindOf s ≤ 5)
+kinds : (s : Step) → (1 ≤ kindOf s) × (kindOf s ≤ 6)
 kinds (TAKE i) = (lit≤ tt, lit≤ tt)
 kinds (FIELD i) = (lit≤ tt, lit≤ tt)
 kinds (SUM ds k) = (lit≤ tt, lit≤ tt)
 kinds (MERGE p cs) = (lit≤ tt, lit≤ tt)
 kinds (SPLIT c i) = (lit≤ tt, lit≤ tt)
+kinds (CROSS ds k h) = (lit≤ tt, lit≤ tt)
 
 one-or-two : (n : ℕ) → 1 ≤ n → n ≤ 2 → (n ≡ 1) ⊎ (n ≡ 2)
 one-or-two n low high = by-cases (decLt n 2) (λ one. inl (omega arith)) (λ more. inr (omega arith))
 
-from-three : (n : ℕ) → 1 ≤ n → n ≢ 1 → n ≢ 2 → 3 ≤ n
-from-three n low one two = omega (arith, one, two)
-
-up-to-five : (n : ℕ) → 3 ≤ n → n ≤ 5 → n ≢ 3 → n ≢ 4 → n ≢ 5 → ⊥
-up-to-five n low high three four five = omega (arith, three, four, five)
+-- m is passed over
+above : {n : ℕ} (m : ℕ) → m ≤ n → n ≢ m → m + 1 ≤ n
+above m low other = omega (arith, other)
 
 -- kinds 1 and 2 are allowed of the first step alone, and kinds from 3 on of the others
 module _ (n kind : ℕ) where
@@ -92,21 +91,23 @@ module _ {list : List ℕ} (read : Readable list) where
 
   -- ---- steps of other kinds
 
-  closed : (b d : Bool) (ds cs : List ℕ) (k p c i : ℕ) → opening (read .order) (when b (SUM ds k) (when d (MERGE p cs) (SPLIT c i))) ≡ none
+  closed : (b d e : Bool) (ds cs es : List ℕ) (k p c i l h : ℕ)
+      → opening (read .order) (when b (SUM ds k) (when d (MERGE p cs) (when e (SPLIT c i) (CROSS es l h)))) ≡ none
   unfolding opening
-  closed true d ds cs k p c i = refl
-  closed false true ds cs k p c i = refl
-  closed false false ds cs k p c i = refl
+  closed true d e ds cs es k p c i l h = refl
+  closed false true e ds cs es k p c i l h = refl
+  closed false false true ds cs es k p c i l h = refl
+  closed false false false ds cs es k p c i l h = refl
 
-  -- a first step of kind 3 to 5
+  -- a first step of kind 3 to 6
   first-refused : (kind at : ℕ) → kind ≢ 1 → kind ≢ 2 → firstIn list kind at ≡ refused (StepNotAllowed 1)
   unfolding firstStep provided
   first-refused kind at one two =
       first-in read kind at
-      ∙ rw (ne-eqb kind 1 one, ne-eqb kind 2 two) (ap (λ x. provided x (StepNotAllowed 1) (sized 1)) (closed (eqb kind 3) (eqb kind 4) _ _ _ _ _ _))
+      ∙ rw (ne-eqb kind 1 one, ne-eqb kind 2 two) (ap (λ x. provided x (StepNotAllowed 1) (sized 1)) (closed (eqb kind 3) (eqb kind 4) (eqb kind 5) _ _ _ _ _ _ _ _ _))
 
   -- the kind of a step that stands in the list
-  stands-kind : (kind at : ℕ) → Stands list kind at → (1 ≤ kind) × (kind ≤ 5)
+  stands-kind : (kind at : ℕ) → Stands list kind at → (1 ≤ kind) × (kind ≤ 6)
   stands-kind kind at stands =
       stands-step read stands λ place after same there limits segment.
       rw (← same) at (kinds (operandsOf list kind at))
@@ -118,10 +119,11 @@ module _ {list : List ℕ} (read : Readable list) where
       later-in read kind at n S
       ∙ ⊎-elim (λ (e : kind ≡ 1). rw e) (λ (e : kind ≡ 2). rw e) (one-or-two kind (stands-kind kind at stands .0) low)
 
-  pub no-other-kind : {kind at : ℕ} → Stands list kind at → kind ≢ 1 → kind ≢ 2 → kind ≢ 3 → kind ≢ 4 → kind ≢ 5 → ⊥
-  no-other-kind {kind} {at} stands one two three four five =
+  pub no-other-kind : {kind at : ℕ} → Stands list kind at → kind ≢ 1 → kind ≢ 2 → kind ≢ 3 → kind ≢ 4 → kind ≢ 5 → kind ≢ 6 → ⊥
+  no-other-kind {kind} {at} stands one two three four five six =
       let (low, high) = stands-kind kind at stands in
-      up-to-five kind (from-three kind low one two) high three four five
+      let past : 7 ≤ kind = above 6 (above 5 (above 4 (above 3 (above 2 (above 1 low one) two) three) four) five) six in
+      omega arith
 
 -- ---- step number n on the sheet in hand
 

@@ -17,7 +17,7 @@ use Rattle.layout.specs.Bytes.{Zeros, LongEnough, sheetIn}
 use Rattle.layout.specs.Step.{Readable, Ready, inOrder}
 use Rattle.layout.specs.declared.Size.{Size}
 
--- Question 5 of step number n, of its kind alone: is the first step of kind 1 or 2, every later one 3 to 5?
+-- Question 5 of step number n, of its kind alone: is the first step of kind 1 or 2, every later one 3 to 6 (02, K6)?
 unfoldable pub kindAllowed : ℕ → ℕ → Bool
 kindAllowed n kind = cond (eqb n 1) (leb kind 2) (leb 3 kind)
 

@@ -4,6 +4,7 @@ ghost use Prim.Native.Nat.{_≤_};
 ghost use Rattle.layout.specs.Bytes.{Zeros};
 ghost use Rattle.layout.specs.Step.{Stands, Left};
 ghost use Rattle.stepping.specs.Stepping.{Prepared, kindAllowed, inHand, numberedIn, proceedIn};
+use crossing::cross;
 use generating::field;
 use layout::Size;
 use merging::merge;
@@ -15,7 +16,7 @@ use step_places::step_at;
 use summing::sum;
 use taking::take;
 
-// Question 5, of the kind alone: is the first step of kind 1 or 2, every later one 3 to 5?
+// Question 5, of the kind alone: is the first step of kind 1 or 2, every later one 3 to 6?
 fn allowed(number: usize, kind: usize) -> bool
     ensures { λ r. ⌜ r ≡ kindAllowed number kind ⌝ }
 {
@@ -49,6 +50,7 @@ fn step(
         3 => sum(list, at, number, size, table, levels, scratch),
         4 => merge(list, at, number, size, table, levels, scratch),
         5 => split(list, at, number, size, table, levels, scratch),
+        6 => cross(list, at, number, size, table, levels, scratch),
         // There is no other kind (question 2).
         _ => not_allowed,
     }

@@ -73,6 +73,13 @@ split-requires c κs =
     let key = c .before .before .before .match .keys5 in
     (rw key at (start .pre .0), start .pre .1 .ready (is-later asked (omega arith)))
 
+cross-requires : tie.Need-cross-requires
+cross-requires c κs =
+    let asked = c .before .before .before .before in
+    let start = asked .before .before .before .before .before .before in
+    let key = c .before .before .before .match .keys6 in
+    (rw key at (start .pre .0), start .pre .1 .ready (is-later asked (omega arith)))
+
 same-length : tie.Need-same-length
 same-length c = search needs
 
@@ -142,11 +149,26 @@ returns-6 c =
     let key = c .before .before .before .before .before .before .before .before .before .before .match .keys5 in
     rw (numbered-later _ _ _ _ _ _ _ (is-later asked (omega arith)), key) (c .before .before .before .before .before .before .split .ensures)
 
+same-length-14 : tie.Need-same-length-14
+same-length-14 c = search needs
+
+same-length-15 : tie.Need-same-length-15
+same-length-15 c = search needs
+
+same-length-16 : tie.Need-same-length-16
+same-length-16 c = search needs
+
 returns-7 : tie.Need-returns-7
 returns-7 c =
+    let asked = c .before .before .before .before .before .before .before .before .before .before .before in
+    let key = c .before .before .before .before .before .before .before .before .before .before .match .keys6 in
+    rw (numbered-later _ _ _ _ _ _ _ (is-later asked (omega arith)), key) (c .before .before .before .before .before .before .cross .ensures)
+
+returns-8 : tie.Need-returns-8
+returns-8 c =
     let start = start-of (c .before) in
     let rest = c .match .rest in
-    absurd (no-other-kind (start .pre .1 .readable) (start .pre .0) (rest .0 .0 .0 .0 .1) (rest .0 .0 .0 .1) (rest .0 .0 .1) (rest .0 .1) (rest .1))
+    absurd (no-other-kind (start .pre .1 .readable) (start .pre .0) (rest .0 .0 .0 .0 .0 .1) (rest .0 .0 .0 .0 .1) (rest .0 .0 .0 .1) (rest .0 .0 .1) (rest .0 .1) (rest .1))
 
 pub step-spec : {M : Type 1} → statement M
 step-spec =
@@ -159,6 +181,7 @@ step-spec =
     sum-requires
     merge-requires
     split-requires
+    cross-requires
     same-length
     same-length-2
     returns-2
@@ -177,4 +200,8 @@ step-spec =
     same-length-12
     same-length-13
     returns-6
-    returns-7)
+    same-length-14
+    same-length-15
+    same-length-16
+    returns-7
+    returns-8)
