@@ -1,4 +1,4 @@
-//! A second implementation of the planner of document 01 with requests K1 to K5 of document 02,
+//! A second implementation of the planner of document 01 with requests K1 to K6 of document 02,
 //! written from these documents alone and as plainly as possible, to be compared with the proved one.
 //! "01" and "02" in comments are those documents.
 //!

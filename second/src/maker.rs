@@ -1,12 +1,15 @@
 //! Random orders, most of them nearly right: built right from passing ingredients, then often
 //! damaged in one place. What an order comes to is for `plan` to say; nothing here decides it.
 
+mod crossing;
 mod draft;
 mod right;
 mod uneven;
 mod wrong;
 
 use crate::{plan, Answer, Lengths, LEAST};
+use crossing::at_every_edge;
+pub use crossing::{crossing_edge_calls, make_crossing, Sizes, ANY, STORED};
 use draft::*;
 pub(crate) use draft::{plain, table_numbers};
 pub(crate) use right::passing_table;
@@ -155,24 +158,8 @@ fn whole_orders() -> [Draft; 2] {
 /// The same cut off at every length, with a number left over, and with each number that is no
 /// entry changed to every edge of its role.
 pub fn edge_calls() -> Vec<Call> {
-    let mut calls = Vec::new();
-    for draft in whole_orders() {
-        let numbers = draft.numbers();
-        for length in 0..=numbers.len() {
-            calls.push(Call::of(plain(&numbers[..length])));
-        }
-        calls.push(Call::of([plain(&numbers), vec![0]].concat()));
-        for (place, &(role, number)) in numbers.iter().enumerate() {
-            for edge in edges(role) {
-                if !is_entry(role) && edge != number {
-                    let mut changed = numbers.clone();
-                    changed[place].1 = edge;
-                    calls.push(Call::of(plain(&changed)));
-                }
-            }
-        }
-    }
-    calls
+    let of = |draft: Draft| at_every_edge(&draft.numbers(), edges);
+    whole_orders().into_iter().flat_map(of).collect()
 }
 
 /// A few orders near the limits of size, and one number, run or column over them.

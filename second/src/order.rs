@@ -31,11 +31,29 @@ pub enum Ingredient {
 /// Ingredients and columns by the numbers that the list gives.
 #[derive(Clone, Debug)]
 pub enum Step {
-    Take { table: usize },
-    Field { generator: usize },
-    Sum { matrices: Vec<usize>, k: usize },
-    Merge { p: usize, members: Vec<usize> },
-    Split { column: usize, table: usize },
+    Take {
+        table: usize,
+    },
+    Field {
+        generator: usize,
+    },
+    Sum {
+        matrices: Vec<usize>,
+        k: usize,
+    },
+    Merge {
+        p: usize,
+        members: Vec<usize>,
+    },
+    Split {
+        column: usize,
+        table: usize,
+    },
+    Cross {
+        matrices: Vec<usize>,
+        k: usize,
+        h: usize,
+    },
 }
 
 /// An entry of an ingredient: where it stands in the list, and the number that it must be below.
@@ -207,7 +225,7 @@ impl<'a> Reader<'a> {
     }
 
     fn step(&mut self) -> Result<Step, usize> {
-        match self.number(|kind| (1..=5).contains(&kind))? {
+        match self.number(|kind| (1..=6).contains(&kind))? {
             1 => Ok(Step::Take {
                 table: self.number(names_an_ingredient)?,
             }),
@@ -215,12 +233,7 @@ impl<'a> Reader<'a> {
                 generator: self.number(names_an_ingredient)?,
             }),
             3 => {
-                let r = self.number(|r| (1..=16).contains(&r))?;
-                let mut matrices = Vec::new();
-                for _ in 0..r {
-                    matrices.push(self.number(names_an_ingredient)?);
-                }
-                let k = self.number(|k| k == 0 || names_an_ingredient(k))?;
+                let (matrices, k) = self.operands_of_sum()?;
                 Ok(Step::Sum { matrices, k })
             }
             4 => {
@@ -231,12 +244,29 @@ impl<'a> Reader<'a> {
                 }
                 Ok(Step::Merge { p, members })
             }
-            _ => {
+            5 => {
                 let column = self.number(|c| (1..=128).contains(&c))?;
                 let table = self.number(names_an_ingredient)?;
                 Ok(Step::Split { column, table })
             }
+            _ => {
+                // Unlike k, h is never 0; 02, K6.
+                let (matrices, k) = self.operands_of_sum()?;
+                let h = self.number(names_an_ingredient)?;
+                Ok(Step::Cross { matrices, k, h })
+            }
         }
+    }
+
+    /// d1 .. dr and k, with r before them.
+    fn operands_of_sum(&mut self) -> Result<(Vec<usize>, usize), usize> {
+        let r = self.number(|r| (1..=16).contains(&r))?;
+        let mut matrices = Vec::new();
+        for _ in 0..r {
+            matrices.push(self.number(names_an_ingredient)?);
+        }
+        let k = self.number(|k| k == 0 || names_an_ingredient(k))?;
+        Ok((matrices, k))
     }
 }
 

@@ -28,6 +28,15 @@ pub fn carry_out(
             let adjoined = if *k == 0 { None } else { Some(table(*k)?) };
             sum(step_number, &sheet, &named, adjoined)
         }
+        (Some(sheet), Step::Cross { matrices, k, h }) => {
+            let mut named = Vec::new();
+            for &d in matrices {
+                named.push(matrix(d)?);
+            }
+            let adjoined = if *k == 0 { None } else { Some(table(*k)?) };
+            let other_side = table(*h)?;
+            cross(step_number, &sheet, matrices, &named, adjoined, &other_side)
+        }
         (Some(sheet), Step::Merge { p, members }) => merge(step_number, &sheet, *p, members),
         (Some(sheet), Step::Split { column, table: i }) => {
             split(step_number, &sheet, *column, &table(*i)?)
@@ -117,7 +126,61 @@ fn sum(
     matrices: &[Matrix],
     adjoined: Option<Table>,
 ) -> Result<Table, Answer> {
-    // Question 6.
+    let (server, k) = parts_of_sum(step_number, sheet, matrices, adjoined)?;
+    let nothing = no_columns(sheet.runs.len());
+    summed(step_number, sheet, &server, &k, &nothing)
+}
+
+/// SUM with a table on the other side; 02, K6. The numbers are those by which the step names its
+/// matrices.
+fn cross(
+    step_number: usize,
+    sheet: &Table,
+    numbers: &[usize],
+    matrices: &[Matrix],
+    adjoined: Option<Table>,
+    h: &Table,
+) -> Result<Table, Answer> {
+    // Question 6 is that of SUM, and h has a run for each of the sheet.
+    let (server, k) = parts_of_sum(step_number, sheet, matrices, adjoined)?;
+    if h.runs.len() != sheet.runs.len() {
+        return Err(refused(9, &[step_number]));
+    }
+
+    // Between questions 6 and 7. A matrix that serves no column is not asked.
+    for (&number, matrix) in numbers.iter().zip(matrices) {
+        if sheet.levels.contains(&matrix.p) {
+            if let Some((column, value)) = first_uneven_value(matrix) {
+                return Err(refused(14, &[step_number, number, column, value]));
+            }
+        }
+    }
+    summed(step_number, sheet, &server, &k, h)
+}
+
+/// The lowest column, from 1, that does not hold each value in M / p rows, and the lowest value that
+/// it holds more or less often.
+fn first_uneven_value(matrix: &Matrix) -> Option<(usize, usize)> {
+    for column in 1..=matrix.columns {
+        for value in 0..matrix.p {
+            let holds_it = |row: &&Vec<usize>| row[column - 1] == value;
+            let times = matrix.rows.iter().filter(holds_it).count();
+            // No division, so that a remainder is uneven.
+            if matrix.p * times != matrix.rows.len() {
+                return Some((column, value));
+            }
+        }
+    }
+    None
+}
+
+/// Question 6 of a SUM: for each column of the sheet the matrix that serves it, and k.
+fn parts_of_sum<'a>(
+    step_number: usize,
+    sheet: &Table,
+    matrices: &'a [Matrix],
+    adjoined: Option<Table>,
+) -> Result<(Vec<&'a Matrix>, Table), Answer> {
     let unfit = refused(9, &[step_number]);
     let m = matrices[0].rows.len();
     for (index, matrix) in matrices.iter().enumerate() {
@@ -128,36 +191,53 @@ fn sum(
             return Err(unfit);
         }
     }
-    let mut server = Vec::new(); // for each sheet column, its matrix
+    let mut server = Vec::new();
     for &level_count in &sheet.levels {
         match matrices.iter().find(|matrix| matrix.p == level_count) {
             Some(matrix) => server.push(matrix),
             None => return Err(unfit),
         }
     }
-    // Nothing adjoined is M runs of no columns.
-    let k = adjoined.unwrap_or(Table {
-        levels: vec![],
-        runs: vec![vec![]; m],
-    });
+    let k = adjoined.unwrap_or(no_columns(m));
     if k.runs.len() != m {
         return Err(unfit);
     }
+    Ok((server, k))
+}
 
-    // Question 8.
-    let columns = server.iter().map(|matrix| matrix.columns).sum::<usize>() + k.levels.len();
+/// Nothing adjoined is so many runs of no columns.
+fn no_columns(runs: usize) -> Table {
+    Table {
+        levels: vec![],
+        runs: vec![vec![]; runs],
+    }
+}
+
+/// Question 8 of a SUM or CROSS, and the new sheet: the sums, then k's columns at the matrix row,
+/// then h's at the old run.
+fn summed(
+    step_number: usize,
+    sheet: &Table,
+    server: &[&Matrix],
+    k: &Table,
+    h: &Table,
+) -> Result<Table, Answer> {
+    let m = k.runs.len();
+    let of_sums: usize = server.iter().map(|matrix| matrix.columns).sum();
+    let columns = of_sums + k.levels.len() + h.levels.len();
     within_limits(step_number, sheet.runs.len() * m, columns)?;
 
     let mut levels = Vec::new();
-    for matrix in &server {
+    for matrix in server {
         for _ in 0..matrix.columns {
             levels.push(matrix.p);
         }
     }
     levels.extend(&k.levels);
+    levels.extend(&h.levels);
 
     let mut runs = Vec::new();
-    for sheet_run in &sheet.runs {
+    for (i, sheet_run) in sheet.runs.iter().enumerate() {
         for y in 0..m {
             let mut run = Vec::new();
             for (j, matrix) in server.iter().enumerate() {
@@ -166,6 +246,7 @@ fn sum(
                 }
             }
             run.extend(&k.runs[y]);
+            run.extend(&h.runs[i]);
             runs.push(run);
         }
     }

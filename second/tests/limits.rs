@@ -41,11 +41,21 @@ fn numbers_in_their_limits() {
     assert_limits("1 3", 1, 9); // t
     assert_limits("1 3 1", 1, 128); // n
     assert_limits("0", 1, 16); // z
-    assert_limits("0 1", 1, 5); // step kind
+    assert_limits("0 1", 1, 6); // step kind
     assert_limits("0 1 3", 1, 16); // r
+    assert_limits("0 1 6", 1, 16);
     assert_limits("0 2 4 2 1 2", 1, 128); // columns of MERGE
     assert_limits("0 2 5", 1, 128); // column of SPLIT
-    for before in ["0 2 1", "0 2 2", "0 2 5 1", "0 2 3 1"] {
+                                    // The last two are h, which unlike k is never 0.
+    for before in [
+        "0 2 1",
+        "0 2 2",
+        "0 2 5 1",
+        "0 2 3 1",
+        "0 2 6 1",
+        "0 2 6 1 1 0",
+        "0 2 6 2 1 2 101",
+    ] {
         for number in 0..=65_535 {
             let named = (1..=32).contains(&number) || (101..=104).contains(&number);
             assert_eq!(allowed(before, number), named, "{before}, then {number}");
@@ -54,6 +64,7 @@ fn numbers_in_their_limits() {
     for number in 0..=65_535 {
         let named = number <= 32 || (101..=104).contains(&number);
         assert_eq!(allowed("0 2 3 1 1", number), named, "k {number}");
+        assert_eq!(allowed("0 2 6 1 1", number), named, "k {number}");
         assert_eq!(
             allowed("0 2 4", number),
             [2, 3, 5, 7].contains(&number),

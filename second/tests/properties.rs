@@ -2,7 +2,7 @@
 
 mod common;
 use common::*;
-use second::maker::{large_calls, make, Call};
+use second::maker::{large_calls, make, make_crossing, Call, ANY};
 use second::order::{Ingredient, Matrix, Order, Step};
 use second::{order, plan, print, scan, Answer};
 use std::collections::BTreeMap;
@@ -13,6 +13,8 @@ fn tried() -> &'static [(Call, Answer)] {
     static TRIED: OnceLock<Vec<(Call, Answer)>> = OnceLock::new();
     TRIED.get_or_init(|| {
         let calls = (0..3_000).map(|index| make(7_000_000 + index));
+        let crossing = (0..1_500).map(|index| make_crossing(7_500_000 + index, &ANY));
+        let calls = calls.chain(crossing);
         calls.map(|call| (call.clone(), call.answer())).collect()
     })
 }
@@ -64,7 +66,7 @@ fn the_spare_follows_from_the_steps() {
             *times.entry(rule).or_default() += 1;
         }
     }
-    assert_eq!(times.len(), 7, "{times:?}");
+    assert_eq!(times.len(), 9, "{times:?}");
     assert!(times.values().all(|&count| count > 100), "{times:?}");
 }
 
@@ -80,7 +82,7 @@ fn spare_after(order: &Order, step: &Step, before: Option<&Answer>) -> (&'static
             let levels: Vec<i64> = generator.factors.iter().map(|f| power(f.len())).collect();
             ("FIELD", power(generator.t) - 1 - held(&levels))
         }
-        Step::Sum { matrices, k } => {
+        Step::Sum { matrices, k } | Step::Cross { matrices, k, .. } => {
             let matrices: Vec<&Matrix> = matrices.iter().map(|&d| matrix_of(order, d)).collect();
             let (n, sheet_levels) = shape(before.unwrap());
             let n_times_m = (n * matrices[0].rows.len()) as i64;
@@ -92,8 +94,15 @@ fn spare_after(order: &Order, step: &Step, before: Option<&Answer>) -> (&'static
                 })
                 .collect();
             let without_k = n_times_m - 1 - held(&new_levels);
-            match k {
-                0 => ("SUM without k", without_k),
+            match (step, k) {
+                (Step::Cross { h, .. }, 0) => {
+                    ("CROSS without k", without_k - held_by_table(order, *h))
+                }
+                (Step::Cross { h, .. }, _) => {
+                    let by_both = held_by_table(order, *k) + held_by_table(order, *h);
+                    ("CROSS with k", without_k - by_both)
+                }
+                (_, 0) => ("SUM without k", without_k),
                 _ => ("SUM with k", without_k - held_by_table(order, *k)),
             }
         }
@@ -140,7 +149,7 @@ fn spare_of_table(order: &Order, number: usize) -> i64 {
 
 #[test]
 fn every_refusal_is_reached() {
-    let mut times = [0; 12];
+    let mut times = [0; 15];
     for (_, answer) in tried() {
         let number = match answer {
             Answer::Filled { .. } => 0,
@@ -148,7 +157,10 @@ fn every_refusal_is_reached() {
         };
         times[number as usize] += 1;
     }
-    assert!(times.iter().all(|&count| count > 30), "{times:?}");
+    // 12 and 13 are a page's.
+    let (to_11, others) = times.split_at(12);
+    assert!(to_11.iter().all(|&count| count > 30), "{times:?}");
+    assert!(others[..2] == [0, 0] && others[2] > 100, "{times:?}");
 }
 
 #[test]
@@ -163,7 +175,7 @@ fn details_are_in_their_ranges() {
             1 => 0,
             2 | 3 | 8 | 9 => 1,
             10 | 11 => 3,
-            4 | 7 => 4,
+            4 | 7 | 14 => 4,
             6 => 5,
             5 => 6,
             other => panic!("{other}"),
@@ -183,6 +195,10 @@ fn details_are_in_their_ranges() {
             7 => assert!(d[2] == 0 && d[1] == 1 || 1 <= d[1] && d[1] < d[2]),
             10 => assert!(d[1] < 512 && (3..=8).contains(&d[2])),
             11 => assert!(d[1] > 512 || d[2] > 128),
+            14 => {
+                assert!((1..=u32::from(call.list[0])).contains(&d[1]));
+                assert!((1..=128).contains(&d[2]) && d[3] < 63);
+            }
             _ => {}
         }
     }

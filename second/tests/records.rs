@@ -101,7 +101,7 @@ fn assert_printed(answer: &[&str]) {
     assert_eq!(answer.len(), 1);
     let refusal = numbers(refusal);
     assert_eq!(refusal.len(), 7);
-    assert!((1..=11).contains(&refusal[0]));
+    assert!((1..=11).contains(&refusal[0]) || refusal[0] == 14);
 }
 
 fn assert_filled(answer: &[&str]) {
@@ -217,6 +217,8 @@ fn kinds_of_steps(order: &order::Order) -> Vec<String> {
             let wide = matrices.iter().filter_map(wide);
             ["SUM".to_string()].into_iter().chain(wide).collect()
         }
+        Step::Cross { k: 0, .. } => vec!["CROSS without k".to_string()],
+        Step::Cross { .. } => vec!["CROSS with k".to_string()],
         Step::Merge { p, .. } => vec![format!("MERGE {p}")],
         Step::Split { .. } => vec!["SPLIT".to_string()],
     };
@@ -266,8 +268,45 @@ fn kinds_of_pair(record: &Record) -> Vec<String> {
     kinds
 }
 
+/// Of an order that is refused as 8, 9, 11 or 14 at a CROSS: the number, and for 14 where it is not the
+/// lowest of all, and p.
+fn kinds_at_cross(record: &Record) -> Vec<String> {
+    let Some(refusal) = record.answer[0].strip_prefix("refused ").map(numbers) else {
+        return vec![];
+    };
+    let &[number, step, ingredient, column, value, ..] = refusal.as_slice() else {
+        panic!("{refusal:?}")
+    };
+    if ![8, 9, 11, 14].contains(&number) {
+        return vec![];
+    }
+    let order = order_of(record);
+    let Step::Cross { matrices, .. } = &order.steps[step - 1] else {
+        return vec![];
+    };
+    let mut kinds = vec![format!("{number} at CROSS")];
+    if number == 14 {
+        match &order.ingredients[ingredient - 1] {
+            Ingredient::Matrix(matrix) => kinds.push(format!("14 with p = {}", matrix.p)),
+            other => panic!("{other:?}"),
+        }
+        if matrices[0] != ingredient {
+            kinds.push("14 not of the list's first".to_string());
+        }
+        if column > 1 {
+            kinds.push("14 not of column 1".to_string());
+        }
+        if value > 0 {
+            kinds.push("14 not of value 0".to_string());
+        }
+    }
+    kinds
+}
+
 fn refusals() -> impl Iterator<Item = String> {
-    (1..=11).map(|number| format!("refused {number}"))
+    (1..=11)
+        .chain([14])
+        .map(|number| format!("refused {number}"))
 }
 
 #[test]
@@ -361,6 +400,9 @@ fn vectors_reach_everything_often() {
                 *times.entry(step).or_default() += 1;
             }
         }
+        for kind in kinds_at_cross(record) {
+            *times.entry(kind).or_default() += 1;
+        }
         if kind == "refused 5" {
             for kind in kinds_of_pair(record) {
                 *times.entry(kind).or_default() += 1;
@@ -372,7 +414,16 @@ fn vectors_reach_everything_often() {
         *times.entry(kind).or_default() += 1;
     }
 
-    let others = ["TAKE", "SUM", "SPLIT", "spare 0", "spare above 0"];
+    let others = [
+        "TAKE",
+        "SUM",
+        "SPLIT",
+        "CROSS without k",
+        "spare 0",
+        "spare above 0",
+        "8 at CROSS",
+        "9 at CROSS",
+    ];
     let mut wanted: Vec<String> = others.map(str::to_string).to_vec();
     wanted.extend(refusals());
     wanted.extend([2, 3, 4, 5, 7, 8, 9].map(|s| format!("FIELD {s}")));
@@ -390,7 +441,17 @@ fn vectors_reach_everything_often() {
     }
     let alone = ["short", "over"].map(|sign| format!("5 {sign} alone"));
     let with_p = [4, 8, 9].map(|p| format!("refused 6 with p = {p}"));
-    for kind in alone.iter().chain(&with_p) {
+    let at_cross = [
+        "CROSS with k",
+        "14 not of the list's first",
+        "14 not of column 1",
+        "14 not of value 0",
+        "14 with p = 2",
+        "14 with p = 3",
+        "14 with p = 4",
+    ]
+    .map(str::to_string);
+    for kind in alone.iter().chain(&with_p).chain(&at_cross) {
         assert!(times.get(kind) > Some(&10), "{kind}: {times:?}");
     }
     assert!(vectors.len() > 2_000);

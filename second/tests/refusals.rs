@@ -66,7 +66,7 @@ fn question_2_places() {
     assert_eq!(place("0 0"), 1); // z
     assert_eq!(place("0 17"), 1);
     assert_eq!(place("0 1 0 101"), 2); // step kind
-    assert_eq!(place("0 1 6 101"), 2);
+    assert_eq!(place("0 1 7 101"), 2);
     assert_eq!(place("0 1 1 0"), 3); // ingredient numbers
     assert_eq!(place("0 1 2 33"), 3);
     assert_eq!(place("0 2 1 101 3 0"), 5); // r

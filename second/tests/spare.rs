@@ -27,6 +27,9 @@ const EXAMPLES: &[(&str, &[i64])] = &[
         "FIELD, SUM, MERGE, SPLIT, spare 4, 9, 9, 11",
         &[4, 9, 9, 11],
     ),
+    ("CROSS without k, spare 0 to 1", &[0, 1]),
+    ("CROSS with a k of one column, spare 0 as before", &[0, 0]),
+    ("CROSS with an h of one column, spare 2 to 5", &[2, 5]),
     ("16 steps, spare 4 after each", &[4; 16]),
     (
         "16 steps, spare 0 to 8 by five of them",

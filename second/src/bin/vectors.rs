@@ -23,6 +23,7 @@ struct Summary {
     answers: BTreeMap<u8, usize>,
     refusing_pairs: BTreeMap<String, usize>,
     refusing_matrices: BTreeMap<usize, usize>,
+    refusing_values: BTreeMap<String, usize>,
     steps: BTreeMap<&'static str, [usize; 2]>,
     refusing_steps: BTreeMap<(u8, &'static str), usize>,
     fields_checked: BTreeMap<usize, [usize; 2]>,
@@ -70,7 +71,7 @@ impl Summary {
         }
         let reached = match number {
             0 => order.steps.len(),
-            8..=11 => details[0] as usize,
+            8..=11 | 14 => details[0] as usize,
             _ => 0,
         };
         for (index, step) in order.steps[..reached].iter().enumerate() {
@@ -84,7 +85,7 @@ impl Summary {
                     }
                     "FIELD"
                 }
-                Step::Sum { matrices, .. } => {
+                Step::Sum { matrices, .. } | Step::Cross { matrices, .. } => {
                     for d in matrices {
                         match order.ingredients.get(d - 1) {
                             Some(Ingredient::Matrix(matrix)) if matrix.columns > 2 => {
@@ -93,7 +94,10 @@ impl Summary {
                             _ => {}
                         }
                     }
-                    "SUM"
+                    match step {
+                        Step::Sum { .. } => "SUM",
+                        _ => "CROSS",
+                    }
                 }
                 Step::Merge { p, .. } => {
                     count(&mut self.merges, *p, filled);
@@ -101,6 +105,11 @@ impl Summary {
                 }
                 Step::Split { .. } => "SPLIT",
             };
+            if let (14, true) = (number, index + 1 == reached) {
+                for kind in kinds_of_value(&order, step, &details) {
+                    *self.refusing_values.entry(kind).or_default() += 1;
+                }
+            }
             count(&mut self.steps, kind, filled);
             if number != 0 && index + 1 == reached {
                 *self.refusing_steps.entry((number, kind)).or_default() += 1;
@@ -126,6 +135,10 @@ impl Summary {
         for (p, times) in &self.refusing_matrices {
             eprintln!("  {p}: {times}");
         }
+        eprintln!("values that refusal 14 names:");
+        for (kind, times) in &self.refusing_values {
+            eprintln!("  {kind}: {times}");
+        }
         eprintln!("refusals by step:");
         for ((number, kind), times) in &self.refusing_steps {
             eprintln!("  {number} at {kind}: {times}");
@@ -136,7 +149,7 @@ impl Summary {
         print_counts(&self.fields_checked);
         eprintln!("FIELD steps reached, by s (in filled orders):");
         print_counts(&self.fields_run);
-        eprintln!("matrices of 3 columns or more in SUM steps reached, by p (in filled orders):");
+        eprintln!("matrices of 3 columns or more in SUM and CROSS steps reached, by p (in filled orders):");
         print_counts(&self.wide_sums);
         eprintln!("MERGE steps reached, by p (in filled orders):");
         print_counts(&self.merges);
@@ -174,6 +187,32 @@ fn kinds_of_pair(table: &Table, details: &[usize; 6]) -> Vec<String> {
     let mut kinds: Vec<String> = kinds.into_iter().map(str::to_string).collect();
     let both = format!("{}, {}", kinds[0], kinds[1]);
     kinds.push(both);
+    kinds
+}
+
+/// What is to be said of the value that refusal 14 names.
+fn kinds_of_value(order: &order::Order, step: &Step, details: &[u32; 6]) -> Vec<String> {
+    let &[_, number, column, value, ..] = details;
+    let Step::Cross { matrices, .. } = step else {
+        return vec![];
+    };
+    let place = matrices.iter().position(|&d| d == number as usize);
+    let Some(Ingredient::Matrix(matrix)) = order.ingredients.get(number as usize - 1) else {
+        return vec![];
+    };
+    let mut kinds = vec![format!("p = {}", matrix.p)];
+    if place != Some(0) {
+        kinds.push("not the first of the step's list".to_string());
+    }
+    if column > 1 {
+        kinds.push("not of column 1".to_string());
+    }
+    if value > 0 {
+        kinds.push("not value 0".to_string());
+    }
+    if matrix.rows.len() % matrix.p != 0 {
+        kinds.push("p does not divide M".to_string());
+    }
     kinds
 }
 

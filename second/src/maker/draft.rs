@@ -136,6 +136,13 @@ pub fn sum(matrices: &[usize], k: usize) -> Numbers {
     all
 }
 
+pub fn cross(matrices: &[usize], k: usize, h: usize) -> Numbers {
+    let mut all = sum(matrices, k);
+    all[0].1 = 6;
+    all.push((Role::Ingredient, h));
+    all
+}
+
 pub fn merge(p: usize, members: &[usize]) -> Numbers {
     let mut all = vec![(Role::StepKind, 4), (Role::MergeP, p)];
     for &member in members {

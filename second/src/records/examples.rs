@@ -1,7 +1,8 @@
 //! The examples of 01, each refusal, orders at both sides of each limit, the spare after each kind of
-//! step, the sums and differences that go with each p, where the check of a MERGE ends, and which pair
-//! refusal 5 names. The orders alone are written here; `plan_text` gives the answers.
+//! step, the sums and differences that go with each p, where the check of a MERGE ends, which pair refusal
+//! 5 names, and CROSS. The orders alone are written here; `plan_text` gives the answers.
 
+mod crossing;
 mod gaps;
 mod members;
 mod short;
@@ -10,6 +11,7 @@ use super::Records;
 use crate::field::product;
 use crate::text::spaced;
 use crate::{Lengths, LEAST};
+use crossing::crossing;
 use gaps::gaps;
 use members::members;
 use short::*;
@@ -36,6 +38,7 @@ pub fn examples() -> String {
     put(&mut records, "fields", &no_fields());
     put(&mut records, "members", &members());
     put(&mut records, "gaps", &gaps());
+    put(&mut records, "crossing", &crossing());
     put(&mut records, "words", WORDS);
     records.text
 }

@@ -230,17 +230,18 @@ pub fn points(t: u16, n: u16) -> Vec<u16> {
 /// The answers to the beginnings of an order: its ingredients with the first step, the first two, and
 /// so on to all of them.
 pub fn answers_by_step(list: &[u16]) -> Vec<Answer> {
+    let count = read(list).unwrap().steps.len();
+    (1..=count)
+        .map(|steps| planned(&beginning(list, steps)))
+        .collect()
+}
+
+/// The list of an order's ingredients with its first steps, so many.
+pub fn beginning(list: &[u16], steps: usize) -> Vec<u16> {
     let lengths: Vec<usize> = read(list).unwrap().steps.iter().map(step_length).collect();
     let start = list.len() - lengths.iter().sum::<usize>();
-    let mut end = start;
-    let mut answers = Vec::new();
-    for (index, length) in lengths.iter().enumerate() {
-        end += length;
-        let count = [index as u16 + 1];
-        let beginning = [&list[..start - 1], &count, &list[start..end]].concat();
-        answers.push(planned(&beginning));
-    }
-    answers
+    let end = start + lengths[..steps].iter().sum::<usize>();
+    [&list[..start - 1], &[steps as u16], &list[start..end]].concat()
 }
 
 /// How many numbers of a list are a step's.
@@ -250,6 +251,7 @@ fn step_length(step: &Step) -> usize {
         Step::Sum { matrices, .. } => 3 + matrices.len(),
         Step::Merge { members, .. } => 2 + members.len(),
         Step::Split { .. } => 3,
+        Step::Cross { matrices, .. } => 4 + matrices.len(),
     }
 }
 

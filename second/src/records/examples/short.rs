@@ -23,6 +23,7 @@ pub const READING: &[(&str, &str)] = &[
     ("17 steps", "0 17"),
     ("step of kind 0", "0 1 0 1"),
     ("step of kind 6", "0 1 6 1"),
+    ("step of kind 7", "0 1 7 1"),
     ("TAKE 0", "0 1 1 0"),
     ("TAKE 32", "0 1 1 32"),
     ("TAKE 33", "0 1 1 33"),
@@ -76,7 +77,7 @@ pub const REFUSALS: &[(&str, &str)] = &[
     ("a number left over", "0 1 1 101 0"),
     (
         "a step out of its limits after an entry out of range",
-        "1 1 2 1 2 0 2 1 6 1",
+        "1 1 2 1 2 0 2 1 7 1",
     ),
     // Question 3.
     ("table entry 2 of 2 levels", "1 1 2 1 2 0 2 1 1 1"),
@@ -251,6 +252,19 @@ pub const SPARE: &[(&str, &str)] = &[
     (
         "FIELD, SUM, MERGE, SPLIT, spare 4, 9, 9, 11",
         "3 3 3 3 2 1 1 1 1 0 1 0 1 1 0 0 0 2 2 2 2 0 0 0 1 1 4 1 2 0 0 1 1 4 2 1 3 1 2 0 4 2 1 3 5 5 1 3",
+    ),
+    // 101 and a matrix of 2 rows and one column; then 4 runs of one column, which is h too.
+    (
+        "CROSS without k, spare 0 to 1",
+        "1 2 2 1 2 0 1 2 1 101 6 1 1 0 101",
+    ),
+    (
+        "CROSS with a k of one column, spare 0 as before",
+        "2 2 2 1 2 0 1 1 2 1 2 1 0 2 1 101 6 1 1 2 101",
+    ),
+    (
+        "CROSS with an h of one column, spare 2 to 5",
+        "2 1 4 1 2 0 0 1 1 2 2 1 2 0 1 2 1 1 6 1 2 0 1",
     ),
 ];
 
