@@ -3,12 +3,10 @@
     python3 catalogue.py              each array, its steps, and what the count says
     python3 catalogue.py NAME         the planner order of one array, as 'L24(4x2^20)'
     python3 catalogue.py --table      docs/CATALOGUE.md's table of the arrays that have an order file
-    python3 catalogue.py --waiting    its table of those that wait for a request
     python3 catalogue.py --absent     its table of examples that have no steps here
 
-What an array needs beyond the planner's steps follows from its own: K6 for a table on the other side,
-and "whole" for a replacement of seven or fifteen columns, which MERGE does not make. A "whole" array
-enters an order as a table for TAKE.
+An array is "whole" if its steps have a replacement of seven or fifteen columns, which MERGE does not make.
+It enters an order as a table for TAKE.
 """
 
 import re
@@ -19,7 +17,7 @@ from typing import NamedTuple
 
 from ingredients import names
 from recipes import ABSENT, ALSO, Entry, entries
-from steps import Field, Generator, Matrix, Merge, OtherSide, Replace, Split, Sum, Table, Take, carry_all
+from steps import Field, Generator, Matrix, Merge, Cross, Replace, Split, Sum, Table, Take, carry_all
 from verify import matrix_failure, table_failure
 
 HOUSE = {"L4(2^3)": 101, "L9(3^4)": 102, "L12(3x2^4)": 103, "L12(6x2^2)": 104}
@@ -28,8 +26,8 @@ HOUSE = {"L4(2^3)": 101, "L9(3^4)": 102, "L12(3x2^4)": 103, "L12(6x2^2)": 104}
 class Array(NamedTuple):
     entry: Entry
     sheet: Table
-    needs: list
-    file: str | None
+    whole: bool
+    file: str
     order: list
 
 
@@ -88,7 +86,7 @@ def step_line(step, number):
             return [4, p, *members]
         case Split(column, table):
             return [5, column, number(table)]
-        case OtherSide(matrices, k, h):
+        case Cross(matrices, k, h):
             return [6, len(matrices), *map(number, matrices), number(k), number(h)]
 
 
@@ -114,25 +112,18 @@ def text_of(lines):
 
 # The catalogue.
 
-def needs_of(steps):
-    """What the steps take beyond the planner's."""
-    found = {"K6": any(isinstance(step, OtherSide) for step in steps),
-             "whole": any(isinstance(step, Replace) for step in steps)}
-    return [need for need, there in found.items() if there]
-
-
 @cache
 def catalogue():
-    """Every array, built; each joins the ingredients of those after it. One that waits has no file."""
+    """Every array, built; each joins the ingredients of those after it."""
     known, taken, arrays = names(), set(), []
     for entry in entries():
         sheet = carry_all(entry.steps, known)
         known.setdefault(entry.name, sheet)
-        needs = needs_of(entry.steps)
-        steps = [Take(entry.name)] if needs == ["whole"] else entry.steps
-        file = file_name(entry, taken) if needs in ([], ["whole"]) else None
+        whole = any(isinstance(step, Replace) for step in entry.steps)
+        steps = [Take(entry.name)] if whole else entry.steps
+        file = file_name(entry, taken)
         taken.add(file)
-        arrays.append(Array(entry, sheet, needs, file, order_lines(steps, known)))
+        arrays.append(Array(entry, sheet, whole, file, order_lines(steps, known)))
     return arrays
 
 
@@ -165,8 +156,8 @@ def in_words(step):
             return f"sum with {together(matrices)}, adjoin {k}"
         case Split(column, table):
             return f"split column {column} by {table}"
-        case OtherSide(matrices, k, h):
-            return f"sum with {together(matrices)}, adjoin {k}, and {h} on the other side"
+        case Cross(matrices, k, h):
+            return f"cross with {together(matrices)}, adjoin {k}, and {h} on the other side"
         case Replace(generators, members):
             return f"put one column of {2 ** len(generators)} levels for columns {' '.join(map(str, members))}"
 
@@ -187,7 +178,7 @@ def steps_in_words(steps):
 
 def order_in_words(array):
     words = steps_in_words(array.entry.steps)
-    if array.needs == ["whole"]:
+    if array.whole:
         return f"take the whole table, as no steps reach it (it was made so: {words})"
     if len(array.entry.steps) == 1 and isinstance(array.entry.steps[0], Take):
         house = HOUSE.get(array.entry.name)
@@ -228,23 +219,8 @@ def table_row(array):
 
 
 def table():
-    rows = [table_row(array) for array in catalogue() if array.file]
+    rows = [table_row(array) for array in catalogue()]
     return table_lines(["paper and number", "file", "runs", "levels", "steps", "spare", "saturated"], rows)
-
-
-WHY = {"K6": "a table on the other side is step 6, which 01 does not have"}
-
-
-def waiting_row(array):
-    """A step of kind 6 is refused when the list is read."""
-    place, name, steps = array.entry
-    why = "; ".join(WHY[need] for need in array.needs)
-    return [place, *size_cells(name), steps_in_words(steps), together(array.needs), why, "2"]
-
-
-def waiting():
-    rows = [waiting_row(array) for array in catalogue() if not array.file]
-    return table_lines(["paper and number", "runs", "levels", "steps", "waits for", "why", "refused as"], rows)
 
 
 def excess(name):
@@ -264,19 +240,19 @@ def absent():
     return table_lines(["paper and number", "arrays", "why"], [absent_row(*group) for group in ABSENT])
 
 
-PRINTED = {"--table": table, "--waiting": waiting, "--absent": absent}
+PRINTED = {"--table": table, "--absent": absent}
 
 
 def list_all():
     bad = uneven_matrices()
     for name in bad:
         print(f"{name} fails: it is no difference matrix")
-    for entry, sheet, needs, _, _ in catalogue():
+    for entry, sheet, whole, _, _ in catalogue():
         failure = failure_of(entry.name, sheet)
         bad += [entry.name] if failure else []
         verdict = f"fails: {failure}" if failure else "passes"
-        marks = "".join(f" [{need}]" for need in needs)
-        print(f"{entry.name} {verdict}{marks}: {steps_in_words(entry.steps)}")
+        mark = " [whole]" if whole else ""
+        print(f"{entry.name} {verdict}{mark}: {steps_in_words(entry.steps)}")
     return 1 if bad else 0
 
 

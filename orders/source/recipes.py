@@ -7,7 +7,7 @@ those after it.
 
 from typing import NamedTuple
 
-from steps import Field, Merge, OtherSide, Replace, Split, Sum, Take
+from steps import Field, Merge, Cross, Replace, Split, Sum, Take
 
 
 class Entry(NamedTuple):
@@ -165,7 +165,7 @@ def example_11():
     four = class_b(96, first, 12, "H_12_002", (
         ("L12(12)", "12x4^7x2^63"), ("L12(2^11)", "4^7x2^74"), ("L12(3x4)", "4^8x3x2^63"),
         ("L12(3x2^4)", "4^7x3x2^67"), ("L12(6x2^2)", "4^7x6x2^65")))
-    twelve = [("L96(12x8x2^77)", [Take("L12(2^11)"), OtherSide(("H_8_even",), "L8(8)", "L12(12)")])]
+    twelve = [("L96(12x8x2^77)", [Take("L12(2^11)"), Cross(("H_8_even",), "L8(8)", "L12(12)")])]
     sixteen = one_column(96, first, "H_12_002", [1, 13, 25], [12 * i + c for i in range(7) for c in (1, 2)], (
         ("L12(2^11)", 85, "16x2^80"), ("L12(3x2^4)", 86, "16x3x2^73"), ("L12(6x2^2)", 86, "16x6x2^71")))
     return four + eight_and_four() + twelve + sixteen + equation_9()
@@ -187,14 +187,14 @@ def mixed_sheets():
 
 def theorem_1():
     six_and_three, three_and_two = ("D_12_6_6_even", "D_12_12_3_even"), ("D_12_12_3_even", "H_12_002_even")
-    return [("L216(18x12x6^5x3^66)", [Take("L18(6x3^6)"), OtherSide(six_and_three, "L12(12)", "L18(18)")]),
-            ("L216(18x12x3^77x2^11)", [Take("L18(2x3^7)"), OtherSide(three_and_two, "L12(12)", "L18(18)")]),
-            ("L144(12^2x3^11x2^44)", [Take("L12(3x2^4)"), OtherSide(three_and_two, "L12(12)", "L12(12)")])]
+    return [("L216(18x12x6^5x3^66)", [Take("L18(6x3^6)"), Cross(six_and_three, "L12(12)", "L18(18)")]),
+            ("L216(18x12x3^77x2^11)", [Take("L18(2x3^7)"), Cross(three_and_two, "L12(12)", "L18(18)")]),
+            ("L144(12^2x3^11x2^44)", [Take("L12(3x2^4)"), Cross(three_and_two, "L12(12)", "L12(12)")])]
 
 
 def corollary_1_1():
     four_and_two = "D_12_12_4_even", "H_12_002_even"
-    return [("L96(12x8x4^11x2^44)", [Field("L8(4x2^4) over GF(2)"), OtherSide(four_and_two, "L12(12)", "L8(8)")])]
+    return [("L96(12x8x4^11x2^44)", [Field("L8(4x2^4) over GF(2)"), Cross(four_and_two, "L12(12)", "L8(8)")])]
 
 
 def corollary_1_2():
@@ -206,7 +206,7 @@ def corollary_1_2():
 
 def corollary_1_3():
     return [("L108(12x9x3^44)", [Take("L9(3^4)"), Sum(("D_12_12_3",), "L12(12)"), Merge(3, [13, 1, 25, 37])]),
-            ("L162(27x6x3^65)", [Field("L27(3^13) over GF(3)"), OtherSide(("D_6_6_3_even",), "L6(6)", "L27(27)")])]
+            ("L162(27x6x3^65)", [Field("L27(3^13) over GF(3)"), Cross(("D_6_6_3_even",), "L6(6)", "L27(27)")])]
 
 
 def example_1_b():

@@ -1,8 +1,8 @@
-"""The steps of document 01 carried out on tables, and two that 01 does not have.
+"""The steps of document 01 carried out on tables, step 6 of request K6, and one that a planner does not have.
 
-A step names its ingredients; `carry` looks them up. Columns are named from 1. OtherSide is step 6
-of request K6. Replace puts one column of 8 or 16 levels in place of seven or fifteen two-level
-columns, as 000 does in its Class C; neither 01 nor a request of 02 has it.
+A step names its ingredients; `carry` looks them up. Columns are named from 1. Cross is step 6. Replace
+puts one column of 8 or 16 levels in place of seven or fifteen two-level columns, as 000 does in its
+Class C; neither 01 nor a request of 02 has it.
 """
 
 from itertools import product
@@ -50,7 +50,7 @@ class Split(NamedTuple):
     table: str
 
 
-class OtherSide(NamedTuple):
+class Cross(NamedTuple):
     matrices: tuple
     k: str
     h: str
@@ -110,10 +110,12 @@ def parted(sheet, column, table):
                  [run[:c] + table.runs[run[c]] + run[c + 1:] for run in sheet.runs])
 
 
-def with_other_side(sheet, matrices, k, h):
-    """Request K6: SUM's columns, then those of h at the old run."""
+def crossed(sheet, matrices, k, h):
+    """CROSS: SUM's columns, then those of h at the old run. Each column of a matrix is even (request K6)."""
     below = summed(sheet, matrices, k)
     assert len(h.runs) == len(sheet.runs)
+    for p, rows in matrices:
+        assert all(p * column.count(x) == len(rows) for column in zip(*rows) for x in range(p))
     return Table(below.levels + h.levels,
                  [run + h.runs[i // len(k.runs)] for i, run in enumerate(below.runs)])
 
@@ -143,8 +145,8 @@ def carry(sheet, step, known):
             return merged(sheet, p, members)
         case Split(column, table):
             return parted(sheet, column, known[table])
-        case OtherSide(matrices, k, h):
-            return with_other_side(sheet, [known[name] for name in matrices], known[k], known[h])
+        case Cross(matrices, k, h):
+            return crossed(sheet, [known[name] for name in matrices], known[k], known[h])
         case Replace(generators, members):
             return replaced(sheet, generators, members)
 

@@ -17,8 +17,7 @@ DOCUMENT = ORDERS.parent / "docs" / "CATALOGUE.md"
 
 def write_orders():
     for array in catalogue():
-        if array.file:
-            (ORDERS / array.file).write_text(text_of(array.order))
+        (ORDERS / array.file).write_text(text_of(array.order))
 
 
 def with_tables(text):
