@@ -75,7 +75,7 @@ abbrev pub start : Comparison
 start =
     record {
       tally = record { records = 0; differing = 0 };
-      answers = replicate 12 0;
+      answers = replicate 15 0;
       lengths = record { table = 65536; levels = 128; scratch = 65536 };
       item = [];
     }

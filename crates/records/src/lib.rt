@@ -47,7 +47,7 @@ pub fn compare_all() -> Tally
 {
     let mut piece = [0u8; 4096];
     let mut item = item_room();
-    let mut counts = [0usize; 12];
+    let mut counts = [0usize; 15];
     let mut state = State {
         tally: Tally {
             records: 0,

@@ -10,7 +10,7 @@ use Rattle.records.proofs.compare_all.Tie as tie
 
 abbrev Inv-loop : tie.InvT-loop
 Inv-loop piece₀ item₀ counts₀ state₀ pieces-left₀ piece item counts state pieces-left =
-    (length piece ≡ 4096) × (length item ≡ 262144) × (length counts ≡ 12) × (state .held ≤ 262144) × Underway (progressOf state item counts)
+    (length piece ≡ 4096) × (length item ≡ 262144) × (length counts ≡ 15) × (state .held ≤ 262144) × Underway (progressOf state item counts)
 
 abbrev μ-loop : tie.MeasureT-loop
 μ-loop piece₀ item₀ counts₀ state₀ pieces-left₀ piece item counts state pieces-left = pieces-left
