@@ -93,9 +93,19 @@ def sum_order(rng):
     return order([parity_table(runs, columns), matrix], [[1, 1], [3, 1, 2, 0]])
 
 
+def cross_order(rng):
+    """The sheet is the table on the other side too. A matrix with its first column has zeros in it, and is uneven."""
+    runs = 2 ** rng.randint(1, 5)
+    rows = 2 ** rng.randint(1, 4)
+    columns = rng.randint(1, min(runs - 1, 128 // rows))
+    first = rng.choices([0, 1], [20, 80])[0]
+    matrix = [2, rows, rows - first, 2, *(parity(y, c) for y in range(rows) for c in range(first, rows))]
+    return order([parity_table(runs, columns), matrix], [[1, 1], [6, 1, 2, 0, 1]])
+
+
 def any_order(rng):
-    make = rng.choices([house_order, table_order, field_order, sum_order, large_order, full_order], [30, 20, 20, 20, 2, 2])[0]
-    return make(rng)
+    makers = [house_order, table_order, field_order, sum_order, cross_order, large_order, full_order]
+    return rng.choices(makers, [30, 20, 20, 20, 15, 2, 2])[0](rng)
 
 
 # Tables, as lists of numbers.

@@ -2,9 +2,9 @@
 //!
 //! It asks every question of 01 within the same limits, and counts pair by pair with a flat array of
 //! counters, as the proved planner does. But it is written for those orders alone: generators over
-//! the field of two elements with factors of one column, SUM without a k and with one kind of sum for
-//! all columns, SPLIT by house table 101, no other house table, no refusal of a generator, and of a
-//! step no other than 10. For an order that needs more the answer is None.
+//! the field of two elements with factors of one column, SUM and CROSS without a k and with one kind of
+//! sum for all columns, SPLIT by house table 101, no other house table, no refusal of a generator, and of
+//! a step no other than 10 and 14. For an order that needs more the answer is None.
 //!
 //! `pages` is apart from that, and whole: any page of any sheet. So is `tables`: the check of any table.
 

@@ -51,6 +51,7 @@ pub fn cases() -> Vec<Case> {
         Case::of("table of 256 runs and 127 columns", table_order(256, 127)),
         Case::of("FIELD to 512 runs and 128 columns", field_order()),
         Case::of("SUM to 512 runs and 128 columns", sum_order()),
+        Case::filled("CROSS to 512 runs and 128 columns", cross_order()),
         Case::of("sixteen steps on 512 runs", sixteen_steps()),
         Case::of("sixteen steps on 4 runs", sixteen_small_steps()),
         Case::filled("SUM with p = 4 to 512 runs, 84 columns", sum_of_4()),
@@ -93,6 +94,16 @@ fn sum_order() -> Vec<u16> {
 /// 64 runs of 16 columns, and a matrix that makes eight of each.
 fn parts_of_sum() -> [Vec<u16>; 2] {
     [parity_table(64, 1..=16), matrix(2, 8, 8, parity)]
+}
+
+/// The same sheet, which is the table on the other side too, and seven columns for each of its own: 8 rows
+/// have no more that are even. So 112 columns are sums, and 16 follow the old runs.
+fn cross_order() -> Vec<u16> {
+    let seven = matrix(2, 8, 7, |row, column| parity(row, column + 1));
+    order(
+        &[parity_table(64, 1..=16), seven],
+        &[&[1, 1], &[6, 1, 2, 0, 1]],
+    )
 }
 
 /// The same SUM, then MERGE of three columns and SPLIT to three again, in turn. After SUM, columns 1,

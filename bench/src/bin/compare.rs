@@ -8,7 +8,7 @@
 use bench::checkers;
 use bench::planners::{plain, proved, Buffers};
 use bench::printers::proved as proved_page;
-use second::maker::{make, make_uneven, Call, Random};
+use second::maker::{self, make, make_crossing, make_uneven, Call, Random};
 use second::page_calls::{self, PageCall};
 use second::table_calls;
 use std::collections::BTreeMap;
@@ -85,10 +85,12 @@ impl Findings {
     }
 }
 
-/// Every tenth order has an uneven table, which few of the others have.
+/// Every tenth order has an uneven table, which few of the others have, and every tenth a CROSS, which
+/// none of them has but where a number was changed to 6.
 fn try_order(seed: u64) -> Trial {
     let call = match seed % 10 {
         9 => make_uneven(seed),
+        8 => make_crossing(seed, &maker::ANY),
         _ => make(seed),
     };
     let mut wanted_bytes = Buffers::zeros(call.lengths);

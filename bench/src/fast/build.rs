@@ -1,5 +1,5 @@
 //! The steps. Each later step builds its sheet in the buffer that is free, so that nothing is copied
-//! back until the end. Of the refusals of a step 10 alone is written.
+//! back until the end. Of the refusals of a step 10 and 14 alone are written.
 
 use super::merge::{first_wrong, modulo_p, Merging};
 use super::nine;
@@ -12,6 +12,33 @@ const HOUSE_TABLE_101: [[u8; 3]; 4] = [[0, 0, 0], [0, 1, 1], [1, 0, 1], [1, 1, 0
 
 /// The entries of the matrix that serves a level count, as bytes, and its columns.
 type Served = (Vec<u8>, usize);
+
+/// The matrix for each level count, of no columns where there is none, and how many rows all of them have.
+struct Servers {
+    of_p: Vec<Served>,
+    rows: usize,
+}
+
+/// The table of a CROSS.
+struct OtherSide {
+    levels: Vec<u8>,
+    cells: Vec<u8>,
+}
+
+impl OtherSide {
+    fn of(table: &Ingredient, runs: usize) -> Result<OtherSide, Stop> {
+        let Shape::Table { levels } = table.shape else {
+            return Err(Stop::NotWritten);
+        };
+        if table.entries.len() != runs * levels.len() {
+            return Err(Stop::NotWritten);
+        }
+        Ok(OtherSide {
+            levels: levels.iter().map(|&level| level as u8).collect(),
+            cells: table.entries.iter().map(|&entry| entry as u8).collect(),
+        })
+    }
+}
 
 /// A sheet; its cells are the first of the buffer that it lies in.
 struct Sheet<'b> {
@@ -37,7 +64,16 @@ pub fn carry_out(order: &Order, buffers: &mut Buffers) -> Result<Outcome, Stop> 
     }
     for (index, step) in later.iter().enumerate() {
         match *step {
-            Step::Sum { matrices } => sheet.sum(order, matrices)?,
+            Step::Sum { matrices } => {
+                let served = sheet.served(order, matrices)?;
+                sheet.sum(&served, None)?;
+            }
+            Step::Cross { matrices, h } => {
+                let served = sheet.served(order, matrices)?;
+                let other_side = OtherSide::of(ingredient(order, h)?, sheet.runs)?;
+                sheet.columns_are_even(index + 2, order, matrices)?;
+                sheet.sum(&served, Some(&other_side))?;
+            }
             Step::Merge { members } => sheet.merge(index + 2, members)?,
             Step::Split { column, table: 101 } => sheet.split(column)?,
             _ => return Err(Stop::NotWritten),
@@ -107,8 +143,9 @@ impl Sheet<'_> {
         Ok(())
     }
 
-    fn sum(&mut self, order: &Order, matrices: &[u16]) -> Result<(), Stop> {
-        let mut served: Vec<Served> = vec![(Vec::new(), 0); 65];
+    /// Question 6 of SUM.
+    fn served(&self, order: &Order, matrices: &[u16]) -> Result<Servers, Stop> {
+        let mut of_p: Vec<Served> = vec![(Vec::new(), 0); 65];
         let mut rows = 0;
         for (index, &d) in matrices.iter().enumerate() {
             let matrix = ingredient(order, d.into())?;
@@ -116,44 +153,100 @@ impl Sheet<'_> {
                 return Err(Stop::NotWritten);
             };
             let matrix_rows = matrix.entries.len() / columns;
-            let of_p = &mut served[usize::from(p)];
-            if index > 0 && matrix_rows != rows || of_p.1 > 0 {
+            let served = &mut of_p[usize::from(p)];
+            if index > 0 && matrix_rows != rows || served.1 > 0 {
                 return Err(Stop::NotWritten);
             }
             rows = matrix_rows;
-            *of_p = (matrix.entries.iter().map(|&e| e as u8).collect(), columns);
+            *served = (matrix.entries.iter().map(|&e| e as u8).collect(), columns);
         }
-        let of_column = |&level: &u8| &served[usize::from(level)];
-        if self.levels.iter().any(|level| of_column(level).1 == 0) {
-            return Err(Stop::NotWritten);
+        let is_served = |&level: &u8| of_p[usize::from(level)].1 > 0;
+        match self.levels.iter().all(is_served) {
+            true => Ok(Servers { of_p, rows }),
+            false => Err(Stop::NotWritten),
         }
-        let width = self.levels.iter().map(|level| of_column(level).1).sum();
-        within_limits(self.runs * rows, width)?;
+    }
+
+    /// 02, K6: each value of each column equally often, in the matrices that serve. They are gone through
+    /// row by row, with a counter for each value of each column.
+    fn columns_are_even(
+        &self,
+        step_number: usize,
+        order: &Order,
+        matrices: &[u16],
+    ) -> Result<(), Stop> {
+        for &d in matrices {
+            let matrix = ingredient(order, d.into())?;
+            let Shape::Matrix { columns, p } = matrix.shape else {
+                return Err(Stop::NotWritten);
+            };
+            if !self.levels.contains(&(p as u8)) {
+                continue;
+            }
+            let p = usize::from(p);
+            let mut times = vec![0; columns * p];
+            for row in matrix.entries.chunks_exact(columns) {
+                for (counters, &entry) in times.chunks_exact_mut(p).zip(row) {
+                    counters[usize::from(entry)] += 1;
+                }
+            }
+            let rows = matrix.entries.len() / columns;
+            if let Some(place) = times.iter().position(|times| p * times != rows) {
+                let (column, value) = (place / p + 1, place % p);
+                let numbers = [14, step_number, d.into(), column, value, 0, 0];
+                return Err(Stop::Refused(numbers));
+            }
+        }
+        Ok(())
+    }
+
+    /// SUM, or with another side CROSS.
+    fn sum(&mut self, served: &Servers, other_side: Option<&OtherSide>) -> Result<(), Stop> {
+        let of_column = |&level: &u8| &served.of_p[usize::from(level)];
+        let repeated = |level: &u8| vec![*level; of_column(level).1];
+        let mut levels: Vec<u8> = self.levels.iter().flat_map(repeated).collect();
+        let sums = levels.len();
+        levels.extend(other_side.iter().flat_map(|other_side| &other_side.levels));
+        within_limits(self.runs * served.rows, levels.len())?;
 
         // 02, K2: the sum is that of the field for 4, 8 and 9, and modulo p for every other p.
         let all = |fits: fn(u8) -> bool| self.levels.iter().all(|&p| fits(p));
         if all(|p| p == 4 || p == 8) {
-            self.put_sums(&served, rows, |_, cell, entry| cell ^ entry);
+            self.put(served, other_side, &levels[..sums], |_, a, b| a ^ b);
         } else if all(|p| p == 9) {
-            self.put_sums(&served, rows, |_, cell, entry| nine::sum(cell, entry));
+            self.put(served, other_side, &levels[..sums], |_, a, b| {
+                nine::sum(a, b)
+            });
         } else if all(|p| ![4, 8, 9].contains(&p)) {
-            self.put_sums(&served, rows, modulo_p);
+            self.put(served, other_side, &levels[..sums], modulo_p);
         } else {
             return Err(Stop::NotWritten);
         }
-        let repeated = |level: &u8| vec![*level; of_column(level).1];
-        self.levels = self.levels.iter().flat_map(repeated).collect();
-        self.runs *= rows;
+        self.levels = levels;
+        self.runs *= served.rows;
         Ok(())
     }
 
-    /// The runs that SUM makes; a sum is given a level count, a cell and an entry.
-    fn put_sums(&mut self, served: &[Served], rows: usize, sum: impl Fn(u8, u8, u8) -> u8) {
+    /// The new runs; a sum is given a level count, a cell and an entry.
+    fn put(
+        &mut self,
+        served: &Servers,
+        other_side: Option<&OtherSide>,
+        ps: &[u8],
+        sum: impl Fn(u8, u8, u8) -> u8,
+    ) {
+        match other_side {
+            None => self.put_sums(served, sum),
+            Some(other_side) => self.put_crossed(served, other_side, ps, sum),
+        }
+    }
+
+    fn put_sums(&mut self, served: &Servers, sum: impl Fn(u8, u8, u8) -> u8) {
         let mut place = 0;
         for run in self.cells.chunks_exact(self.levels.len()).take(self.runs) {
-            for y in 0..rows {
+            for y in 0..served.rows {
                 for (&p, &cell) in self.levels.iter().zip(run) {
-                    let (entries, columns) = &served[usize::from(p)];
+                    let (entries, columns) = &served.of_p[usize::from(p)];
                     let row = &entries[y * columns..(y + 1) * columns];
                     let new = &mut self.free[place..place + columns];
                     for (new, &entry) in new.iter_mut().zip(row) {
@@ -161,6 +254,46 @@ impl Sheet<'_> {
                     }
                     place += columns;
                 }
+            }
+        }
+    }
+
+    /// Even columns are seldom as many as a power of two, so that a loop over those of one matrix is slow.
+    /// Cells and rows are laid out as the new columns stand, and a new run's sums are one loop.
+    fn put_crossed(
+        &mut self,
+        served: &Servers,
+        other_side: &OtherSide,
+        ps: &[u8],
+        sum: impl Fn(u8, u8, u8) -> u8,
+    ) {
+        let mut rows = Vec::with_capacity(served.rows * ps.len());
+        for y in 0..served.rows {
+            for &p in &self.levels {
+                let (entries, columns) = &served.of_p[usize::from(p)];
+                rows.extend_from_slice(&entries[y * columns..(y + 1) * columns]);
+            }
+        }
+        let mut wide = vec![0; ps.len()];
+        let width = ps.len() + other_side.levels.len();
+        let runs = self.cells.chunks_exact(self.levels.len()).take(self.runs);
+        let others = other_side.cells.chunks_exact(other_side.levels.len());
+        let groups = self.free.chunks_exact_mut(served.rows * width);
+        for ((run, other), group) in runs.zip(others).zip(groups) {
+            let mut place = 0;
+            for (&p, &cell) in self.levels.iter().zip(run) {
+                let columns = served.of_p[usize::from(p)].1;
+                wide[place..place + columns].fill(cell);
+                place += columns;
+            }
+            let rows = rows.chunks_exact(ps.len());
+            for (new, row) in group.chunks_exact_mut(width).zip(rows) {
+                let (sums, last) = new.split_at_mut(ps.len());
+                let parts = wide.iter().zip(row).zip(ps);
+                for (new, ((&cell, &entry), &p)) in sums.iter_mut().zip(parts) {
+                    *new = sum(p, cell, entry);
+                }
+                last.copy_from_slice(other);
             }
         }
     }

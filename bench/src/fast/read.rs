@@ -34,6 +34,7 @@ pub enum Step<'a> {
     Sum { matrices: &'a [u16] },
     Merge { members: &'a [u16] },
     Split { column: usize, table: usize },
+    Cross { matrices: &'a [u16], h: usize },
 }
 
 pub fn order(list: &[u16]) -> Result<Order<'_>, Stop> {
@@ -149,33 +150,41 @@ impl<'a> Reader<'a> {
     }
 
     fn step(&mut self) -> Result<Step<'a>, Stop> {
-        Ok(match self.number(|kind| (1..=5).contains(&kind))? {
+        Ok(match self.number(|kind| (1..=6).contains(&kind))? {
             1 => Step::Take {
                 table: self.number(names_an_ingredient)?,
             },
             2 => Step::Field {
                 generator: self.number(names_an_ingredient)?,
             },
-            3 => {
-                let r = self.number(|r| (1..=16).contains(&r))?;
-                let matrices = self.series(r, names_an_ingredient)?;
-                let k = self.number(|k| k == 0 || names_an_ingredient(k))?;
-                if k != 0 {
-                    return Err(Stop::NotWritten);
-                }
-                Step::Sum { matrices }
-            }
+            3 => Step::Sum {
+                matrices: self.operands_of_sum()?,
+            },
             4 => {
                 let p = self.number(|p| [2, 3, 5, 7].contains(&p))?;
                 Step::Merge {
                     members: self.series(p + 1, |c| (1..=128).contains(&c))?,
                 }
             }
-            _ => Step::Split {
+            5 => Step::Split {
                 column: self.number(|c| (1..=128).contains(&c))?,
                 table: self.number(names_an_ingredient)?,
             },
+            _ => Step::Cross {
+                matrices: self.operands_of_sum()?,
+                h: self.number(names_an_ingredient)?,
+            },
         })
+    }
+
+    /// The matrices; a k is not written.
+    fn operands_of_sum(&mut self) -> Result<&'a [u16], Stop> {
+        let r = self.number(|r| (1..=16).contains(&r))?;
+        let matrices = self.series(r, names_an_ingredient)?;
+        match self.number(|k| k == 0 || names_an_ingredient(k))? {
+            0 => Ok(matrices),
+            _ => Err(Stop::NotWritten),
+        }
     }
 }
 
