@@ -22,9 +22,9 @@ extern "C" {
 /* A page: 60 lines of 79 characters and a line feed. A shorter page buffer is answered with refusal 12, a longer one is taken. */
 #define YURBANTZE_PAGE_LENGTH 4800
 
-/* The refusals, with their details in order. Columns, factors, steps, ingredients, members and pages count from 1; places, runs and levels from 0.
- * Details that are not named are 0. An order is refused by 1 to 11, a table that is checked by itself by 2 to 5, and a page by 1, 12 or 13, which have no
- * details. */
+/* The refusals, with their details in order. Columns, factors, steps, ingredients, members and pages count from 1; places, runs, levels and
+ * values from 0. Details that are not named are 0. An order is refused by 1 to 11 or 14, a table that is checked by itself by 2 to 5, and a page by 1, 12 or
+ * 13, which have no details. */
 enum yurbantze_number {
     YURBANTZE_FILLED = 0,             /* no refusal: runs, columns; of a page, that it is printed; of a table, that it passes */
     YURBANTZE_SHORT_BUFFERS = 1,      /* a buffer is too short; a sheet handed in has runs, columns or a level count outside 1 to 512, 1 to 128 or
@@ -41,7 +41,9 @@ enum yurbantze_number {
     YURBANTZE_NOT_THE_SUM = 10,       /* step, run, member; the check ended there, and needed run + 1 runs */
     YURBANTZE_TOO_LARGE = 11,         /* step, runs, columns */
     YURBANTZE_SHORT_PAGE = 12,        /* the page buffer is too short */
-    YURBANTZE_NO_SUCH_PAGE = 13       /* page 0, or one past the last */
+    YURBANTZE_NO_SUCH_PAGE = 13,      /* page 0, or one past the last */
+    YURBANTZE_UNEVEN_VALUE = 14       /* step, ingredient, column, value; of a CROSS, the first of its matrices that serves a column of the sheet and
+                                         has an uneven column, the lowest such column and the lowest value in it */
 };
 
 /* Plans an order, and returns answer[0]: 0 for a filled order, and otherwise the number of the refusal.

@@ -97,7 +97,7 @@ impl Table {
 }
 
 /// Why an order is refused, or a table that is checked by itself, which is ingredient 1 then. Columns, factors, steps, ingredients and members count from
-/// 1; places, runs and levels from 0; `times` is a number of runs.
+/// 1; places, runs, levels and values from 0; `times` is a number of runs.
 #[derive(Clone, Copy, Debug, PartialEq, Eq)]
 pub enum Refusal {
     ShortBuffers,
@@ -115,6 +115,9 @@ pub enum Refusal {
     /// The check ended at that run, the first that is wrong, and needed `run` + 1 runs.
     NotTheSum { step: usize, run: usize, member: usize },
     TooLarge { step: usize, runs: usize, columns: usize },
+    /// Of a CROSS: the ingredient is the first of its matrices that serves a column of the sheet and holds a value too often or not often enough. Column
+    /// and value are the lowest.
+    UnevenValue { step: usize, ingredient: usize, column: usize, value: usize },
 }
 
 impl Refusal {
@@ -133,6 +136,7 @@ impl Refusal {
             9 => Refusal::PartsDoNotFit { step: a },
             10 => Refusal::NotTheSum { step: a, run: b, member: c },
             11 => Refusal::TooLarge { step: a, runs: b, columns: c },
+            14 => Refusal::UnevenValue { step: a, ingredient: b, column: c, value: d },
             _ => unreachable!("no refusal has the number {number}"),
         }
     }
@@ -153,6 +157,7 @@ impl Refusal {
             Refusal::PartsDoNotFit { step } => [9, step, 0, 0, 0, 0, 0],
             Refusal::NotTheSum { step, run, member } => [10, step, run, member, 0, 0, 0],
             Refusal::TooLarge { step, runs, columns } => [11, step, runs, columns, 0, 0, 0],
+            Refusal::UnevenValue { step, ingredient, column, value } => [14, step, ingredient, column, value, 0, 0],
         }
     }
 }

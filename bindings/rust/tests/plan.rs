@@ -1,4 +1,5 @@
-//! Orders planned through the static library: those of document 01, "Counted examples" and "Printed runs", and the spare and the sums of document 02.
+//! Orders planned through the static library: those of document 01, "Counted examples" and "Printed runs", and the spare, the sums and the table on the other
+//! side of document 02.
 use yurbantze::{plan, plan_into, Refusal, Size, Table, LEVELS_LENGTH, SCRATCH_LENGTH, TABLE_LENGTH};
 
 fn runs(table: &Table) -> Vec<Vec<u8>> {
@@ -114,6 +115,24 @@ fn a_column_named_twice() {
     let refusal = plan(&[0, 2, 1, 101, 4, 2, 1, 1, 2]).expect_err("the order is refused");
     assert_eq!(refusal, Refusal::PartsDoNotFit { step: 2 });
     assert_eq!(refusal.to_string(), "refused 9 2 0 0 0 0 0");
+}
+
+#[test]
+fn a_table_on_the_other_side() {
+    // The levels 0 and 1, crossed with themselves by a matrix of the column 0, 1: i + y, y and i.
+    let list = [2, 1, 2, 1, 2, 0, 1, 2, 2, 1, 2, 0, 1, 2, 1, 1, 6, 1, 2, 1, 1];
+    let table = plan(&list).expect("the order is filled");
+    assert_eq!(table.levels(), [2, 2, 2]);
+    assert_eq!(runs(&table), [[0, 0, 0], [1, 1, 0], [1, 0, 1], [0, 1, 1]]);
+    assert_eq!(table.spare(), 0);
+    // With a column of zeros before it the matrix serves a SUM, but no CROSS.
+    let mut list = [2, 1, 2, 1, 2, 0, 1, 2, 2, 2, 2, 0, 0, 0, 1, 2, 1, 1, 6, 1, 2, 1, 1];
+    let refusal = Refusal::UnevenValue { step: 2, ingredient: 2, column: 1, value: 0 };
+    assert_eq!(plan(&list), Err(refusal));
+    assert_eq!(refusal.to_string(), "refused 14 2 2 1 0 0 0");
+    let last = list.len() - 1;
+    list[last - 4] = 3;
+    assert_eq!(plan(&list[..last]).expect("the order is filled").levels(), [2, 2, 2]);
 }
 
 #[test]
