@@ -5,7 +5,7 @@ ghost use lib.ListN.{length, getD};
 ghost use Rattle.finite.specs.Lists.{AllBelow};
 ghost use Rattle.buffers.specs.Put.{Put};
 ghost use Rattle.step_tables.specs.Sum.{levelSum};
-ghost use Rattle.group_sums.specs.Tables.{FieldTables, Summable};
+ghost use Rattle.sum_tables.specs.Tables.{FieldTables, Summable};
 ghost use Rattle.sum_bytes.specs.Summing.{RowStands, RunStands, summedRun};
 use buffers::put_byte;
 use group_sums::modulo_sum;

@@ -5,7 +5,7 @@ use borrow.Author.Needs.{needs}
 use lib.ListN.{length, getD}
 use Rattle.finite.specs.Lists.{AllBelow, from}
 use Rattle.buffers.proofs.Puts.{put-length}
-use Rattle.group_sums.proofs.Tables.{summable}
+use Rattle.sum_tables.proofs.Tables.{summable}
 use Rattle.sum_bytes.specs.Summing.{summedCells, summedRun}
 use Rattle.sum_bytes.proofs.Pieces.{Pieces, pieces-none, below-room, below-next, below-all}
 use Rattle.sum_bytes.proofs.Sums.{row-length, row-part, cells-length}

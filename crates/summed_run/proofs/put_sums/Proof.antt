@@ -15,7 +15,7 @@ use Rattle.galois.specs.Levels.{overField}
 use Rattle.galois.proofs.Levels.{sum-modulo}
 use Rattle.ingredients.proofs.Parts.{part-length}
 use Rattle.sum_bytes.proofs.Sums.{part-same}
-use Rattle.group_sums.proofs.Tables.{row-within, row-has}
+use Rattle.sum_tables.proofs.Tables.{row-within, row-has}
 use Rattle.summed_run.proofs.put_sums.Statement.{statement}
 use Rattle.summed_run.proofs.put_sums.Tie as tie
 

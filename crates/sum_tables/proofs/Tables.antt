@@ -14,7 +14,7 @@ use lib.Seq.{getD-take, getD-drop, getD-set-same, getD-set-other}
 use Rattle.finite.proofs.Fits.{run-end}
 use Rattle.galois.specs.Levels.{overField, levelSum}
 use Rattle.galois.proofs.Levels.{over-each}
-use Rattle.group_sums.specs.Tables.{FieldSums, FieldTables, SameBefore, Summable}
+use Rattle.sum_tables.specs.Tables.{FieldSums, FieldTables, SameBefore, Summable}
 
 -- the fields are those of 4, 8 and 9 elements
 pub over-from : (s : ℕ) → T (overField s) → 4 ≤ s

@@ -9,10 +9,10 @@ use borrow.Author.Tests.{lt-ltb}
 use lib.Dec.{T, lit≤}
 use lib.ListN.{getD}
 use Rattle.galois.specs.Levels.{overField}
-use Rattle.group_sums.specs.Tables.{FieldTables}
-use Rattle.group_sums.proofs.Tables.{tables-none, tables-without, tables-more}
-use Rattle.group_sums.proofs.field_tables.Statement.{statement}
-use Rattle.group_sums.proofs.field_tables.Tie as tie
+use Rattle.sum_tables.specs.Tables.{FieldTables}
+use Rattle.sum_tables.proofs.Tables.{tables-none, tables-without, tables-more}
+use Rattle.sum_tables.proofs.field_tables.Statement.{statement}
+use Rattle.sum_tables.proofs.field_tables.Tie as tie
 
 abbrev Inv-loop : tie.InvT-loop
 Inv-loop widths sums₀ s₀ sums s = (s ≤ 10) × FieldTables widths s sums

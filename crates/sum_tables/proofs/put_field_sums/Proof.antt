@@ -5,9 +5,9 @@ use native.Mathlib.Nat.{mod-lt, div-lt-iff-lt-mul, lt-of-lt-of-le}
 use native.Mathlib.Omega.{arith}
 use lib.Dec.{T}
 use Rattle.galois.specs.Levels.{overField}
-use Rattle.group_sums.proofs.Tables.{over-from, over-to, squares-to, Putting, putting-none, putting-more}
-use Rattle.group_sums.proofs.put_field_sums.Statement.{statement}
-use Rattle.group_sums.proofs.put_field_sums.Tie as tie
+use Rattle.sum_tables.proofs.Tables.{over-from, over-to, squares-to, Putting, putting-none, putting-more}
+use Rattle.sum_tables.proofs.put_field_sums.Statement.{statement}
+use Rattle.sum_tables.proofs.put_field_sums.Tie as tie
 
 abbrev Inv-loop : tie.InvT-loop
 Inv-loop sums₀ s size start q₀ sums q = Putting s q sums₀ sums
