@@ -14,7 +14,7 @@ use Rattle.order.specs.declared.Entries.the-variants.{InRange, OutOfRange, Unre
 use Rattle.order.proofs.Segment.{Segment, part-left, part-right, segment-fits, segment-numbers}
 use Rattle.order.proofs.Powers.{total-small}
 use Rattle.entry_range.specs.Search.{Inside, locatedRange, scanned}
-use Rattle.entry_range.proofs.Rows.{high-same, high-one}
+use Rattle.row_limits.proofs.Rows.{high-same, high-one}
 
 -- An ingredient that stands at a place: its limits and its entries, by the places that the code finds.
 module _ (list : List ℕ) (at : ℕ) where

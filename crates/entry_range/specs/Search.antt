@@ -1,31 +1,16 @@
 -- What the parts of the code that answers question 3 find in the list itself.
-use mathlib.Core.Bool.{Bool}
 use mathlib.Core.List.{List}
 use Prim.Native.Nat.{ℕ, zero, suc, _+_, _*_, _≤_, _<_}
-use lib.Dec.{ltb}
-use lib.ListN.{length, getD, take, drop, replicate}
+use lib.ListN.{length, take, drop, replicate}
 use Rattle.order.specs.Order.{Ingredient}
 use Rattle.order.specs.Reader.{Parsed, value, refused}
 use Rattle.order.specs.Grammar.{readIngredient}
 use Rattle.order.specs.declared.Located.{Located}
 use Rattle.order.specs.declared.Located.the-variants.{Table, Matrix, Generator, Missing}
-use Rattle.order.specs.Range.{firstFailing, ingredientRange, earlier}
+use Rattle.order.specs.Range.{ingredientRange, earlier}
 use Rattle.order.specs.declared.Entries.{Entries}
 use Rattle.order.specs.declared.Entries.the-variants.{InRange, Unread}
-
--- Number c of the row from place start on is below limit c.
-abbrev pub isBelow : List ℕ → ℕ → List ℕ → ℕ → Bool
-isBelow list start limits c = ltb (getD list (start + c) 0) (getD limits c 0)
-
--- The first number of that row that is not below its limit.
-unfoldable pub highInRow : List ℕ → ℕ → List ℕ → Entries
-highInRow list start limits = firstFailing (isBelow list start limits) start (length limits) 0
-
--- The same over rows one after the other, each of which has the same limits.
-abbrev pub highInRows : List ℕ → ℕ → ℕ → List ℕ → Entries
-highInRows list start zero limits = InRange
-highInRows list start (suc rows) limits =
-    earlier (highInRow list start limits) (highInRows list (start + length limits) rows limits)
+use Rattle.row_limits.specs.High.{highInRows}
 
 -- The limits and the entries of an ingredient stand within the list. One limit for all entries is a 16-bit number, and a row is at most as long as
 -- that of a generator with 128 factors of width 6.

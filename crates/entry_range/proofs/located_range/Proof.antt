@@ -4,7 +4,7 @@ use denote.Ref.{now}
 use borrow.Author.Needs.{needs}
 use Rattle.order.specs.declared.Located.the-variants.{Table, Matrix, Generator}
 use Rattle.entry_range.specs.Search.{Inside, locatedRange}
-use Rattle.entry_range.proofs.Rows.{limits-part, limits-part-length}
+use Rattle.row_limits.proofs.Rows.{limits-part, limits-part-length}
 use Rattle.entry_range.proofs.located_range.Statement.{statement}
 use Rattle.entry_range.proofs.located_range.Tie as tie
 

@@ -1,11 +1,11 @@
--- `entry_range::first_not_below` meets its contract: it hands over so many times the same limit.
+-- `row_limits::first_not_below` meets its contract: it hands over so many times the same limit.
 use mathlib.Core.Path.{sym, _∙_, ap}
 use denote.Ref.{now}
 use borrow.Author.Needs.{needs}
-use Rattle.entry_range.specs.Search.{highInRows}
-use Rattle.entry_range.proofs.Rows.{limits-one, limits-one-length}
-use Rattle.entry_range.proofs.first_not_below.Statement.{statement}
-use Rattle.entry_range.proofs.first_not_below.Tie as tie
+use Rattle.row_limits.specs.High.{highInRows}
+use Rattle.row_limits.proofs.Rows.{limits-one, limits-one-length}
+use Rattle.row_limits.proofs.first_not_below.Statement.{statement}
+use Rattle.row_limits.proofs.first_not_below.Tie as tie
 
 cast-limits : tie.Need-cast-limits
 cast-limits c = search needs

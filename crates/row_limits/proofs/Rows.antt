@@ -13,7 +13,7 @@ use Rattle.order.specs.declared.Entries.{Entries}
 use Rattle.order.specs.declared.Entries.the-variants.{InRange, OutOfRange, Unread}
 use Rattle.order.proofs.Segment.{Segment, segment-at}
 use Rattle.order.proofs.Failing.{failing-same, failing-parts, failing-from}
-use Rattle.entry_range.specs.Search.{highInRow, highInRows}
+use Rattle.row_limits.specs.High.{highInRow, highInRows}
 
 -- Number q of u is below its bound.
 abbrev under : List ℕ → (ℕ → ℕ) → ℕ → Bool

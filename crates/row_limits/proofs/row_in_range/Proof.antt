@@ -1,4 +1,4 @@
--- `entry_range::row_in_range` meets its contract. The invariant: the numbers so far pass and those from column on pass exactly where all of them do.
+-- `row_limits::row_in_range` meets its contract. The invariant: the numbers so far pass and those from column on pass exactly where all of them do.
 use mathlib.Core.Path.{_≡_, sym, _∙_}
 use mathlib.Core.Bool.{_&&_, and-true}
 use Prim.Native.Nat.{_+_, _-_, _≤_}
@@ -8,9 +8,9 @@ use borrow.Author.Needs.{needs}
 use lib.ListN.{length}
 use Rattle.order.specs.Range.{firstFailing, isInRange}
 use Rattle.order.proofs.Failing.{failing-all, failing-done}
-use Rattle.entry_range.specs.Search.{isBelow, highInRow}
-use Rattle.entry_range.proofs.row_in_range.Statement.{statement}
-use Rattle.entry_range.proofs.row_in_range.Tie as tie
+use Rattle.row_limits.specs.High.{isBelow, highInRow}
+use Rattle.row_limits.proofs.row_in_range.Statement.{statement}
+use Rattle.row_limits.proofs.row_in_range.Tie as tie
 
 abbrev Inv-loop : tie.InvT-loop
 Inv-loop list start limits all₀ column₀ all column =

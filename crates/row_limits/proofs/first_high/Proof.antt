@@ -1,4 +1,4 @@
--- `entry_range::first_high` meets its contract. The invariant: the rows that are left stand within the list, and the search in them gives the
+-- `row_limits::first_high` meets its contract. The invariant: the rows that are left stand within the list, and the search in them gives the
 -- answer of the whole.
 use mathlib.Core.Path.{_≡_, refl, sym, _∙_}
 use Prim.Native.Nat.{_+_, _*_, _≤_}
@@ -7,10 +7,10 @@ use denote.Ref.{now}
 use borrow.Author.Needs.{needs}
 use borrow.Author.Tests.{not-true, not-false}
 use lib.ListN.{length}
-use Rattle.entry_range.specs.Search.{highInRows}
-use Rattle.entry_range.proofs.Rows.{rows-on, rows-stop, rows-done, row-first}
-use Rattle.entry_range.proofs.first_high.Statement.{statement}
-use Rattle.entry_range.proofs.first_high.Tie as tie
+use Rattle.row_limits.specs.High.{highInRows}
+use Rattle.row_limits.proofs.Rows.{rows-on, rows-stop, rows-done, row-first}
+use Rattle.row_limits.proofs.first_high.Statement.{statement}
+use Rattle.row_limits.proofs.first_high.Tie as tie
 
 abbrev Inv-loop : tie.InvT-loop
 Inv-loop list start rows limits at₀ left₀ at left =

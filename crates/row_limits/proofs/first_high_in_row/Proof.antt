@@ -1,4 +1,4 @@
--- `entry_range::first_high_in_row` meets its contract. The invariant: the search from column on gives the answer of the whole row.
+-- `row_limits::first_high_in_row` meets its contract. The invariant: the search from column on gives the answer of the whole row.
 use mathlib.Core.Path.{_≡_, sym, _∙_}
 use Prim.Native.Nat.{_+_, _-_, _≤_}
 use native.Mathlib.Omega.{arith}
@@ -8,9 +8,9 @@ use borrow.Author.Tests.{lt-ltb, le-ltb}
 use lib.ListN.{length}
 use Rattle.order.specs.Range.{firstFailing}
 use Rattle.order.proofs.Failing.{failing-on, failing-stop, failing-done}
-use Rattle.entry_range.specs.Search.{isBelow, highInRow}
-use Rattle.entry_range.proofs.first_high_in_row.Statement.{statement}
-use Rattle.entry_range.proofs.first_high_in_row.Tie as tie
+use Rattle.row_limits.specs.High.{isBelow, highInRow}
+use Rattle.row_limits.proofs.first_high_in_row.Statement.{statement}
+use Rattle.row_limits.proofs.first_high_in_row.Tie as tie
 
 abbrev Inv-loop : tie.InvT-loop
 Inv-loop list start limits column₀ column =
