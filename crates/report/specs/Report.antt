@@ -1,11 +1,12 @@
 -- What is printed of an answer: document 01, "Printed runs", with the header of document 02, K1.
 use mathlib.Core.List.{List, map, flatMap}
-use Prim.Native.Nat.{ℕ, _*_, _≤_}
-use lib.ListN.{length, take}
+use Prim.Native.Nat.{ℕ}
+use lib.ListN.{take}
 use Rattle.finite.specs.Lists.{from}
 use Rattle.counting.specs.Table.{columns}
 use Rattle.spare.specs.Spare.{spare}
 use Rattle.lines.specs.Lines.{refusedLine, printed}
+pub use Rattle.printed_table.specs.Room.{answerRoom, TableInBuffers}
 use Rattle.words.specs.Words.{Reading, numbers, refused, reading}
 use Rattle.sheets.specs.Refusals.{numbered}
 use Rattle.sheets.specs.Steps as steps
@@ -23,17 +24,6 @@ refusalLine why = refusedLine (numbered why)
 unfoldable pub answerPrinted : Answer → List ℕ → List ℕ → List ℕ
 answerPrinted (Filled runs columns spared) levels cells = printed runs spared (take columns levels) cells
 answerPrinted (Refused why) levels cells = refusalLine why
-
--- Room for any answer: 514 lines (the header, the level counts and 512 runs) of at most 513 bytes.
-abbrev pub answerRoom : ℕ
-answerRoom = 263682
-
--- A table within the limits that lies in its buffers.
-pub record TableInBuffers (runs columns : ℕ) (levels cells : List ℕ) : Type 0 where
-  pub few : runs ≤ 512
-  pub narrow : columns ≤ 128
-  pub levels-there : columns ≤ length levels
-  pub cells-there : runs * columns ≤ length cells
 
 unfoldable pub Printable : Answer → List ℕ → List ℕ → Type 0
 Printable (Filled runs columns spared) levels cells = TableInBuffers runs columns levels cells

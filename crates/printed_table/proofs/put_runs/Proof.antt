@@ -1,12 +1,12 @@
--- `report::put_runs` meets its contract. The invariant: the first `i` runs are put, up to `place`, and the next one starts at `start`.
+-- `printed_table::put_runs` meets its contract. The invariant: the first `i` runs are put, up to `place`, and the next one starts at `start`.
 use Prim.Native.Nat.{_≤_, _-_}
 use native.Mathlib.Omega.{arith}
 use borrow.Author.Needs.{needs}
 use Rattle.buffers.specs.Put.{Bytes}
 use Rattle.buffers.proofs.Puts.{put-length}
-use Rattle.report.proofs.Answers.{RunsPut, runs-none, run-there, run-room, run-next, runs-all}
-use Rattle.report.proofs.put_runs.Statement.{statement}
-use Rattle.report.proofs.put_runs.Tie as tie
+use Rattle.printed_table.proofs.Tables.{RunsPut, runs-none, run-there, run-room, run-next, runs-all}
+use Rattle.printed_table.proofs.put_runs.Statement.{statement}
+use Rattle.printed_table.proofs.put_runs.Tie as tie
 
 abbrev Inv-loop : tie.InvT-loop
 Inv-loop buf₀ at runs columns cells place₀ start₀ i₀ buf place start i = (i ≤ runs) × RunsPut columns cells buf₀ at i buf place start

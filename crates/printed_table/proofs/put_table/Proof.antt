@@ -1,12 +1,12 @@
--- `report::put_table` meets its contract: the three parts are put one after the other, and the buffer has room for them.
+-- `printed_table::put_table` meets its contract: the three parts are put one after the other, and the buffer has room for them.
 use mathlib.Core.Path.{sym}
 use native.Mathlib.Omega.{arith}
 use borrow.Author.Needs.{needs}
 use mir.Facts.{fits-ofZ, sfits-toZ, toZ-ofZ}
 use Rattle.buffers.specs.Put.{Bytes}
-use Rattle.report.proofs.Answers.{many, levels-room, runs-room, put-printed}
-use Rattle.report.proofs.put_table.Statement.{statement}
-use Rattle.report.proofs.put_table.Tie as tie
+use Rattle.printed_table.proofs.Tables.{many, levels-room, runs-room, put-printed}
+use Rattle.printed_table.proofs.put_table.Statement.{statement}
+use Rattle.printed_table.proofs.put_table.Tie as tie
 
 put-header-requires : tie.Need-put-header-requires
 put-header-requires c κs = search needs
