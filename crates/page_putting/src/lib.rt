@@ -8,10 +8,10 @@ ghost use Rattle.buffers.specs.Put.{Put};
 ghost use Rattle.page_text.specs.Pages.{parts, pageCount, pageText};
 ghost use Rattle.given_sheet.specs.Given.{WellFormed, givenSheet};
 ghost use Rattle.page_putting.specs.Part.{partOf, partLine, PartIn};
+use level_lines::put_count_line;
+use level_lines::put_run_line;
 use page_lines::put_blank_line;
-use page_lines::put_count_line;
 use page_lines::put_number_line;
-use page_lines::put_run_line;
 
 // What a page has of its sheet: the runs from one on, and the columns from one to before another.
 pub struct Part {

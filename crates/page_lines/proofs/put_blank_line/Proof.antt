@@ -2,7 +2,7 @@
 use native.Mathlib.Omega.{arith}
 use borrow.Author.Needs.{needs}
 use Rattle.buffers.proofs.Puts.{put-none}
-use Rattle.page_lines.proofs.Lines.{closed-put}
+use Rattle.line_parts.proofs.Lines.{closed-put}
 use Rattle.page_lines.proofs.put_blank_line.Statement.{statement}
 use Rattle.page_lines.proofs.put_blank_line.Tie as tie
 

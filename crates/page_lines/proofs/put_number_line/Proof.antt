@@ -2,7 +2,7 @@
 use Prim.Native.Nat.{_-_, _≤_}
 use native.Mathlib.Omega.{arith}
 use borrow.Author.Needs.{needs}
-use Rattle.page_lines.proofs.Lines.{columns-many, four-wide, numbers-room, end-room, line-put}
+use Rattle.line_parts.proofs.Lines.{columns-many, four-wide, numbers-room, end-room, line-put}
 use Rattle.page_lines.proofs.put_number_line.Statement.{statement}
 use Rattle.page_lines.proofs.put_number_line.Tie as tie
 

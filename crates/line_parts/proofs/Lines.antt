@@ -15,7 +15,7 @@ use Rattle.decimals.proofs.Decimals.{decimal-length}
 use Rattle.pieces.proofs.Lists.{from-next}
 use Rattle.page_text.specs.Pages.{blanks, rightAligned, inThree, closed}
 use Rattle.page_text.proofs.Aligned.{aligned-length, three-snoc}
-use Rattle.page_lines.specs.Three.{PutThree}
+use Rattle.line_parts.specs.Three.{PutThree}
 
 -- ---- numbers one by one
 

@@ -1,14 +1,14 @@
--- `page_lines::put_column_numbers` meets its contract. The invariant: the columns before `column` are put, up to `place`.
+-- `line_parts::put_column_numbers` meets its contract. The invariant: the columns before `column` are put, up to `place`.
 use mathlib.Core.Path.{_≡_}
 use mathlib.Core.List.{map}
 use Prim.Native.Nat.{suc, _-_, _≤_}
 use native.Mathlib.Omega.{arith}
 use Rattle.finite.specs.Lists.{from}
 use Rattle.buffers.proofs.Puts.{put-length}
-use Rattle.page_lines.specs.Three.{PutThree}
-use Rattle.page_lines.proofs.Lines.{columns-none, columns-next, columns-room}
-use Rattle.page_lines.proofs.put_column_numbers.Statement.{statement}
-use Rattle.page_lines.proofs.put_column_numbers.Tie as tie
+use Rattle.line_parts.specs.Three.{PutThree}
+use Rattle.line_parts.proofs.Lines.{columns-none, columns-next, columns-room}
+use Rattle.line_parts.proofs.put_column_numbers.Statement.{statement}
+use Rattle.line_parts.proofs.put_column_numbers.Tie as tie
 
 abbrev Inv-loop : tie.InvT-loop
 Inv-loop buf₀ at first end place₀ column₀ buf place column =

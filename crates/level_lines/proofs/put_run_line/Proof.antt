@@ -1,8 +1,8 @@
--- `page_lines::put_run_line` meets its contract: the run's number, its levels and the end of the line.
+-- `level_lines::put_run_line` meets its contract: the run's number, its levels and the end of the line.
 use borrow.Author.Needs.{needs}
-use Rattle.page_lines.proofs.Lines.{four-wide, numbers-room, end-room, line-put}
-use Rattle.page_lines.proofs.put_run_line.Statement.{statement}
-use Rattle.page_lines.proofs.put_run_line.Tie as tie
+use Rattle.line_parts.proofs.Lines.{four-wide, numbers-room, end-room, line-put}
+use Rattle.level_lines.proofs.put_run_line.Statement.{statement}
+use Rattle.level_lines.proofs.put_run_line.Tie as tie
 
 put-in-four-requires : tie.Need-put-in-four-requires
 put-in-four-requires c κs = search needs

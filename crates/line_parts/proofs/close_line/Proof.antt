@@ -1,10 +1,10 @@
--- `page_lines::close_line` meets its contract: the blanks and then the line feed.
+-- `line_parts::close_line` meets its contract: the blanks and then the line feed.
 use native.Mathlib.Omega.{arith}
 use borrow.Author.Needs.{needs}
 use Rattle.buffers.proofs.Puts.{put-join}
-use Rattle.page_lines.proofs.Lines.{blanks-end}
-use Rattle.page_lines.proofs.close_line.Statement.{statement}
-use Rattle.page_lines.proofs.close_line.Tie as tie
+use Rattle.line_parts.proofs.Lines.{blanks-end}
+use Rattle.line_parts.proofs.close_line.Statement.{statement}
+use Rattle.line_parts.proofs.close_line.Tie as tie
 
 put-blanks-requires : tie.Need-put-blanks-requires
 put-blanks-requires c κs = search needs

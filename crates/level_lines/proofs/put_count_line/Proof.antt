@@ -1,9 +1,9 @@
--- `page_lines::put_count_line` meets its contract: four blanks, the level counts and the end of the line.
+-- `level_lines::put_count_line` meets its contract: four blanks, the level counts and the end of the line.
 use native.Mathlib.Omega.{arith}
 use borrow.Author.Needs.{needs}
-use Rattle.page_lines.proofs.Lines.{blanks-end, four-blanks, numbers-room, end-room, line-put}
-use Rattle.page_lines.proofs.put_count_line.Statement.{statement}
-use Rattle.page_lines.proofs.put_count_line.Tie as tie
+use Rattle.line_parts.proofs.Lines.{blanks-end, four-blanks, numbers-room, end-room, line-put}
+use Rattle.level_lines.proofs.put_count_line.Statement.{statement}
+use Rattle.level_lines.proofs.put_count_line.Tie as tie
 
 add-put-blanks : tie.Need-add-put-blanks
 add-put-blanks c = search needs

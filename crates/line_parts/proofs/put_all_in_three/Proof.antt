@@ -1,13 +1,13 @@
--- `page_lines::put_all_in_three` meets its contract. The invariant: the first `i` numbers are put, up to `place`.
+-- `line_parts::put_all_in_three` meets its contract. The invariant: the first `i` numbers are put, up to `place`.
 use Prim.Native.Nat.{_-_, _≤_, _<_}
 use native.Mathlib.Omega.{arith}
 use borrow.Author.Needs.{needs}
 use lib.ListN.{length, getD, take}
 use Rattle.buffers.proofs.Puts.{put-length}
-use Rattle.page_lines.specs.Three.{PutThree}
-use Rattle.page_lines.proofs.Lines.{all-none, all-next, all-room, all-done}
-use Rattle.page_lines.proofs.put_all_in_three.Statement.{statement}
-use Rattle.page_lines.proofs.put_all_in_three.Tie as tie
+use Rattle.line_parts.specs.Three.{PutThree}
+use Rattle.line_parts.proofs.Lines.{all-none, all-next, all-room, all-done}
+use Rattle.line_parts.proofs.put_all_in_three.Statement.{statement}
+use Rattle.line_parts.proofs.put_all_in_three.Tie as tie
 
 abbrev Inv-loop : tie.InvT-loop
 Inv-loop buf₀ at numbers place₀ i₀ buf place i = (i ≤ length numbers) × PutThree (take i numbers) buf₀ at buf place
