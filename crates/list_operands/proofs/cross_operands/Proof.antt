@@ -1,4 +1,4 @@
--- `list_steps::cross_operands` meets its contract: the operands of SUM are read, and then the ingredient.
+-- `list_operands::cross_operands` meets its contract: the operands of SUM are read, and then the ingredient.
 use mathlib.Core.Path.{sym, _∙_}
 use Rattle.order.specs.Order.{CROSS}
 use Rattle.order.specs.Grammar.{readCross}
@@ -6,8 +6,8 @@ use Rattle.order.specs.Answers.{walkOf}
 use Rattle.order.proofs.Answers.{walk-go, walk-stops, number-last}
 use Rattle.order.proofs.Stages.{sum-ends}
 use borrow.Author.Needs.{needs}
-use Rattle.list_steps.proofs.cross_operands.Statement.{statement}
-use Rattle.list_steps.proofs.cross_operands.Tie as tie
+use Rattle.list_operands.proofs.cross_operands.Statement.{statement}
+use Rattle.list_operands.proofs.cross_operands.Tie as tie
 
 sum-operands-requires : tie.Need-sum-operands-requires
 sum-operands-requires c κs = search needs

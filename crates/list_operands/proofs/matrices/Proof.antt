@@ -1,10 +1,10 @@
--- `list_steps::matrices` meets its contract: the number is read, and then that many ingredient numbers.
+-- `list_operands::matrices` meets its contract: the number is read, and then that many ingredient numbers.
 use mathlib.Core.Path.{sym, _∙_}
 use Rattle.order.specs.Answers.{walkOf}
 use Rattle.order.proofs.Answers.{number-go, number-stops}
 use borrow.Author.Needs.{needs}
-use Rattle.list_steps.proofs.matrices.Statement.{statement}
-use Rattle.list_steps.proofs.matrices.Tie as tie
+use Rattle.list_operands.proofs.matrices.Statement.{statement}
+use Rattle.list_operands.proofs.matrices.Tie as tie
 
 number-requires : tie.Need-number-requires
 number-requires c κs = search needs

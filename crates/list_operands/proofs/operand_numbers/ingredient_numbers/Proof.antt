@@ -1,4 +1,4 @@
--- `list_steps::operand_numbers::ingredient_numbers` meets its contract. The invariant: reading what is left from the cursor on gives the answer of the whole.
+-- `list_operands::operand_numbers::ingredient_numbers` meets its contract. The invariant: reading what is left from the cursor on gives the answer of the whole.
 use mathlib.Core.Path.{_≡_, refl, sym, _∙_}
 use denote.Ref.{now}
 use borrow.Author.Needs.{needs}
@@ -6,8 +6,8 @@ use Rattle.order.specs.Reader.{allowed, repeated}
 use Rattle.order.specs.Grammar.{ingredientNumber}
 use Rattle.order.specs.Answers.{walkOf}
 use Rattle.order.proofs.Answers.{number-value, number-refused, times-on, times-refused, times-done}
-use Rattle.list_steps.proofs.operand_numbers.ingredient_numbers.Statement.{statement}
-use Rattle.list_steps.proofs.operand_numbers.ingredient_numbers.Tie as tie
+use Rattle.list_operands.proofs.operand_numbers.ingredient_numbers.Statement.{statement}
+use Rattle.list_operands.proofs.operand_numbers.ingredient_numbers.Tie as tie
 
 abbrev Inv-loop : tie.InvT-loop
 Inv-loop list n c₀ left₀ c left =

@@ -1,7 +1,7 @@
--- `list_steps::operand_numbers::is_ingredient_number` meets its contract: the first range decides, or else the second.
+-- `list_operands::operand_numbers::is_ingredient_number` meets its contract: the first range decides, or else the second.
 use borrow.Author.Needs.{needs}
-use Rattle.list_steps.proofs.operand_numbers.is_ingredient_number.Statement.{statement}
-use Rattle.list_steps.proofs.operand_numbers.is_ingredient_number.Tie as tie
+use Rattle.list_operands.proofs.operand_numbers.is_ingredient_number.Statement.{statement}
+use Rattle.list_operands.proofs.operand_numbers.is_ingredient_number.Tie as tie
 
 within-requires : tie.Need-within-requires
 within-requires c κs = search needs

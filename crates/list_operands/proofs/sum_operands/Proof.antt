@@ -1,11 +1,11 @@
--- `list_steps::sum_operands` meets its contract: the matrices are read, and then the table or none.
+-- `list_operands::sum_operands` meets its contract: the matrices are read, and then the table or none.
 use mathlib.Core.Path.{sym, _∙_}
 use Rattle.order.specs.Answers.{walkOf}
 use Rattle.order.proofs.Answers.{walk-go, walk-stops, number-last}
 use Rattle.order.proofs.Stages.{sum-ends}
 use borrow.Author.Needs.{needs}
-use Rattle.list_steps.proofs.sum_operands.Statement.{statement}
-use Rattle.list_steps.proofs.sum_operands.Tie as tie
+use Rattle.list_operands.proofs.sum_operands.Statement.{statement}
+use Rattle.list_operands.proofs.sum_operands.Tie as tie
 
 matrices-requires : tie.Need-matrices-requires
 matrices-requires c κs = search needs

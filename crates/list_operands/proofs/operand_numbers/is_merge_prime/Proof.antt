@@ -1,7 +1,7 @@
--- `list_steps::operand_numbers::is_merge_prime` meets its contract: each way out has the parts of the test decided.
+-- `list_operands::operand_numbers::is_merge_prime` meets its contract: each way out has the parts of the test decided.
 use borrow.Author.Tests.{le-leb, lt-leb, eq-eqb, ne-eqb}
-use Rattle.list_steps.proofs.operand_numbers.is_merge_prime.Statement.{statement}
-use Rattle.list_steps.proofs.operand_numbers.is_merge_prime.Tie as tie
+use Rattle.list_operands.proofs.operand_numbers.is_merge_prime.Statement.{statement}
+use Rattle.list_operands.proofs.operand_numbers.is_merge_prime.Tie as tie
 
 returns : tie.Need-returns
 returns c = simp (lt-leb _ _ (c .if1 .taken))

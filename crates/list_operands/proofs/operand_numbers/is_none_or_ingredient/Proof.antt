@@ -1,8 +1,8 @@
--- `list_steps::operand_numbers::is_none_or_ingredient` meets its contract: 0 decides, or else the test of an ingredient number.
+-- `list_operands::operand_numbers::is_none_or_ingredient` meets its contract: 0 decides, or else the test of an ingredient number.
 use borrow.Author.Tests.{eq-eqb, ne-eqb}
 use borrow.Author.Needs.{needs}
-use Rattle.list_steps.proofs.operand_numbers.is_none_or_ingredient.Statement.{statement}
-use Rattle.list_steps.proofs.operand_numbers.is_none_or_ingredient.Tie as tie
+use Rattle.list_operands.proofs.operand_numbers.is_none_or_ingredient.Statement.{statement}
+use Rattle.list_operands.proofs.operand_numbers.is_none_or_ingredient.Tie as tie
 
 returns : tie.Need-returns
 returns c = simp (eq-eqb _ _ (c .if1 .taken))

@@ -27,7 +27,7 @@ fn is_merge_prime(p: usize) -> bool
 }
 
 // The p of MERGE.
-pub(crate) fn merge_prime(list: &[u16], c: Cursor) -> Number
+pub fn merge_prime(list: &[u16], c: Cursor) -> Number
     ensures { λ r. ⌜ r ≡ numberOf (allowed mergePrime (now (list .entry)) (c .at)) ⌝ }
 {
     accept(list, c, is_merge_prime(peek(list, c)))
@@ -41,7 +41,7 @@ fn is_ingredient_number(i: usize) -> bool
 }
 
 // The number of an ingredient.
-pub(crate) fn ingredient_number(list: &[u16], c: Cursor) -> Number
+pub fn ingredient_number(list: &[u16], c: Cursor) -> Number
     ensures { λ r. ⌜ r ≡ numberOf (allowed ingredientNumber (now (list .entry)) (c .at)) ⌝ }
 {
     accept(list, c, is_ingredient_number(peek(list, c)))

@@ -1,7 +1,7 @@
--- `list_steps::after` meets its contract, by the cases of the number.
+-- `list_operands::after` meets its contract, by the cases of the number.
 use borrow.Author.Needs.{needs}
-use Rattle.list_steps.proofs.after.Statement.{statement}
-use Rattle.list_steps.proofs.after.Tie as tie
+use Rattle.list_operands.proofs.after.Statement.{statement}
+use Rattle.list_operands.proofs.after.Tie as tie
 
 enum-known-x : tie.Need-enum-known-x
 enum-known-x c = search needs

@@ -1,12 +1,12 @@
--- `list_steps::split_operands` meets its contract: the column is read, and then the ingredient.
+-- `list_operands::split_operands` meets its contract: the column is read, and then the ingredient.
 use mathlib.Core.Path.{sym, _∙_}
 use Rattle.order.specs.Order.{SPLIT}
 use Rattle.order.specs.Grammar.{readSplit}
 use Rattle.order.specs.Answers.{walkOf}
 use Rattle.order.proofs.Answers.{number-go, number-stops, number-last}
 use borrow.Author.Needs.{needs}
-use Rattle.list_steps.proofs.split_operands.Statement.{statement}
-use Rattle.list_steps.proofs.split_operands.Tie as tie
+use Rattle.list_operands.proofs.split_operands.Statement.{statement}
+use Rattle.list_operands.proofs.split_operands.Tie as tie
 
 number-requires : tie.Need-number-requires
 number-requires c κs = search needs
