@@ -55,10 +55,10 @@ entries-part N m levels table =
 
 -- ---- a test and what it says
 
-leb-iff : (m n : ℕ) → T (leb m n) ↔ (m ≤ n)
+pub leb-iff : (m n : ℕ) → T (leb m n) ↔ (m ≤ n)
 leb-iff m n = (leb→le m n, le→leb m n)
 
-both-iff : (a b : Bool) {A B : Type 0} → T a ↔ A → T b ↔ B → T (a && b) ↔ (A × B)
+pub both-iff : (a b : Bool) {A B : Type 0} → T a ↔ A → T b ↔ B → T (a && b) ↔ (A × B)
 both-iff a b p q =
     (λ t. let both = T-and a b .0 t in (p .0 (both .0), q .0 (both .1)), λ h. T-and a b .1 (p .1 (h .0), q .1 (h .1)))
 
@@ -66,7 +66,7 @@ every-iff : (n : ℕ) (f : ℕ → Bool) {P : ℕ → Type 0} → ((i : ℕ) →
 every-iff n f says = (λ t i h. says i .0 (all-every n f t i h), λ all. every-all n f (λ i h. says i .1 (all i h)))
 
 -- a test that was passed
-passed : (b : Bool) → b ≡ true → T b
+pub passed : (b : Bool) → b ≡ true → T b
 passed true e = tt
 passed false e = absurd (true≢false (sym e))
 
@@ -127,6 +127,10 @@ module _ (N m : ℕ) where
                 λ r k c h. w .in-range r c k h,
               ),
         )
+
+-- so a sheet that passes it stands
+pub stands-formed : (N m : ℕ) (levels table : List ℕ) → wellFormed N m levels table ≡ true → WellFormed N m levels table
+stands-formed N m levels table e = well-formed-iff N m levels table .0 (passed _ e)
 
 -- ---- the first part that fails decides the test
 

@@ -14,7 +14,7 @@ use Rattle.counting.specs.Table.{Table, tableOf}
 use Rattle.pieces.specs.Padded.{zeros, padded}
 use Rattle.pieces.proofs.Padded.{padded-front}
 use Rattle.given_sheet.specs.Given.{WellFormed, wellFormed, givenSheet}
-use Rattle.given_sheet.proofs.Given.{well-formed-iff}
+use Rattle.given_sheet.proofs.Given.{well-formed-iff, stands-formed}
 use Rattle.given_sheet.proofs.Sheet.{given-columns}
 use Rattle.page_text.specs.Pages.{pageCount, pageText}
 use Rattle.page_text.proofs.Counts.{pages-most}
@@ -24,10 +24,6 @@ use Rattle.legible.specs.Faithful.{Faithful}
 use Rattle.legible.proofs.Faithful.{faithful}
 use Rattle.legible.proofs.Places.{printed-once}
 use Rattle.page_promise.specs.PagePromise.{pageAnswer, pageBytes, PagePromise}
-
--- a sheet that passes the test
-pub stands-formed : (N m : ℕ) (levels table : List ℕ) → wellFormed N m levels table ≡ true → WellFormed N m levels table
-stands-formed N m levels table e = well-formed-iff N m levels table .0 (subst T (sym e) tt)
 
 -- ---- the answer, case by case
 

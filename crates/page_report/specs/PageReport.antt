@@ -6,11 +6,9 @@ use lib.Dec.{leb}
 use Rattle.finite.specs.Lists.{from}
 use Rattle.counting.specs.Table.{Table, columns}
 use Rattle.lines.specs.Lines.{refusedLine}
-use Rattle.words.specs.Words.{Reading, numbers, refused}
+use Rattle.words.specs.Words.{Reading}
 use Rattle.sheets.specs.Steps as steps
-use Rattle.sheets.specs.Outcome.{outcome}
-use Rattle.sheets.specs.declared.answer.Refusal.the-variants.{Unreadable}
-use Rattle.report.specs.Report.{refusalLine}
+use Rattle.report.specs.Report.{outcomeBy, readingBy}
 use Rattle.page_text.specs.Pages.{pageCount, pageText}
 use Rattle.page_argument.specs.declared.Asked.{Asked}
 use Rattle.page_argument.specs.declared.Asked.the-variants.{All, One}
@@ -29,14 +27,12 @@ sheetPages All T = allPages T
 sheetPages (One n) T = cond (leb 1 n && leb n (pageCount (T .runs) (columns T))) (pageText T n) noSuchPage
 
 -- of an outcome: of its sheet, or the refusal "as the planner does"
-unfoldable pub outcomePages : Asked → steps.Outcome → List ℕ
-outcomePages asked (steps.filled S) = sheetPages asked S
-outcomePages asked (steps.refused why) = refusalLine why
+abbrev pub outcomePages : Asked → steps.Outcome → List ℕ
+outcomePages asked = outcomeBy (sheetPages asked)
 
 -- and of a text
 abbrev pub readingPages : Asked → Reading → List ℕ
-readingPages asked (numbers list) = outcomePages asked (outcome list)
-readingPages asked (refused place) = refusalLine (Unreadable place)
+readingPages asked = readingBy (sheetPages asked)
 
 -- Room for any of these: 54 pages of 4,800 bytes.
 abbrev pub pageRoom : ℕ

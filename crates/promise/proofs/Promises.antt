@@ -274,6 +274,10 @@ planned-long : (list : List ℕ) (n m k : ℕ) → suffice n m k ≡ true → pl
 unfolding planned
 planned-long list n m k long = ap (λ b. cond b (outcome list) (refused ShortBuffers)) long
 
+-- buffers of a program's lengths pass question 1, so that what comes of a list is what the list itself comes to
+pub least-buffers : (list : List ℕ) {n m k : ℕ} → 65536 ≡ n → 128 ≡ m → 65536 ≡ k → planned list n m k ≡ outcome list
+least-buffers list a b c = rw (← a, ← b, ← c) (planned-long list 65536 128 65536 refl)
+
 -- what a filled outcome leaves
 pub settled-filled : (x : Outcome) (was-table was-levels : List ℕ) {answer : Answer} (n m : ℕ) {spared kept : ℤ} {table levels : List ℕ} → answer ≡ Filled n m spared
     → kept ≡ spared → Left x was-table was-levels answer table levels

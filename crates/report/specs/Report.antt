@@ -3,7 +3,7 @@ use mathlib.Core.List.{List, map, flatMap}
 use Prim.Native.Nat.{ℕ}
 use lib.ListN.{take}
 use Rattle.finite.specs.Lists.{from}
-use Rattle.counting.specs.Table.{columns}
+use Rattle.counting.specs.Table.{Table, columns}
 use Rattle.spare.specs.Spare.{spare}
 use Rattle.lines.specs.Lines.{refusedLine, printed}
 pub use Rattle.printed_table.specs.Room.{answerRoom, TableInBuffers}
@@ -42,3 +42,12 @@ readingPrinted (refused place) = refusalLine (Unreadable place)
 
 unfoldable pub output : List ℕ → List ℕ
 output input = readingPrinted (reading input)
+
+-- A program that shows something else of a sheet, as its pages (02, K3) or what it costs (02, K7), prints this of the sheet of an outcome, or the refusal.
+abbrev pub outcomeBy : (Table → List ℕ) → steps.Outcome → List ℕ
+outcomeBy shown (steps.filled S) = shown S
+outcomeBy shown (steps.refused why) = refusalLine why
+
+abbrev pub readingBy : (Table → List ℕ) → Reading → List ℕ
+readingBy shown (numbers list) = outcomeBy shown (outcome list)
+readingBy shown (refused place) = refusalLine (Unreadable place)

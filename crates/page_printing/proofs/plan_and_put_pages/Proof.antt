@@ -1,6 +1,8 @@
 -- `page_printing::plan_and_put_pages` meets its contract: what `plan` promises of a filled order can be printed, and is what the outcome prints.
 use borrow.Author.Needs.{needs}
-use Rattle.page_printing.proofs.PagePrinting.{filled-well-formed, filled-put, refused-put}
+use Rattle.page_report.specs.PageReport.{sheetPages}
+use Rattle.filled_sheet.proofs.FilledSheet.{filled-well-formed, filled-put, refused-put}
+use Rattle.page_printing.proofs.Agreement.{pages-agree}
 use Rattle.page_printing.proofs.plan_and_put_pages.Statement.{statement}
 use Rattle.page_printing.proofs.plan_and_put_pages.Tie as tie
 
@@ -36,7 +38,7 @@ same-length-4 c = search needs
 returns : tie.Need-returns
 returns c =
     let on = c .before .before .before .before .before .before .before in
-    filled-put (on .before .before .before .before .before .before .before .before .plan .ensures) _ (on .answer .given .1) (c .before .before .put-asked .ensures)
+    filled-put (on .before .before .before .before .before .before .before .before .plan .ensures) (sheetPages _) (λ A B alike. pages-agree alike _) (on .answer .given .1) (c .before .before .put-asked .ensures)
 
 same-length-5 : tie.Need-same-length-5
 same-length-5 c = search needs
@@ -53,7 +55,7 @@ same-length-8 c = search needs
 returns-2 : tie.Need-returns-2
 returns-2 c =
     let on = c .before .before .before .before .before in
-    refused-put (on .before .before .before .before .before .before .before .before .plan .ensures) _ (on .answer2 .given .1) (c .before .before .put-refused .ensures)
+    refused-put (on .before .before .before .before .before .before .before .before .plan .ensures) (sheetPages _) (on .answer2 .given .1) (c .before .before .put-refused .ensures)
 
 pub plan-and-put-pages-spec : {M : Type 1} → statement M
 plan-and-put-pages-spec =

@@ -1,5 +1,5 @@
 -- `pages::put_pages` meets its contract: what is put is what is printed of the outcome, in buffers that are long enough.
-use Rattle.pages.proofs.Pages.{pages-put}
+use Rattle.promise.proofs.Promises.{least-buffers}
 use borrow.Author.Needs.{needs}
 use Rattle.pages.proofs.put_pages.Statement.{statement}
 use Rattle.pages.proofs.put_pages.Tie as tie
@@ -23,7 +23,7 @@ returns : tie.Need-returns
 returns c =
     let planned = c .before .before .before .before .before in
     let lent = planned .before .before in
-    pages-put _ _ (slice-aggregate-plan-and-put-pages (lent .before .before)) (slice-aggregate-plan-and-put-pages-2 (lent .before)) (slice-aggregate-plan-and-put-pages-3 lent)
+    rw (least-buffers _ (slice-aggregate-plan-and-put-pages (lent .before .before)) (slice-aggregate-plan-and-put-pages-2 (lent .before)) (slice-aggregate-plan-and-put-pages-3 lent)) at
     (planned .plan-and-put-pages .ensures)
 
 pub put-pages-spec : {M : Type 1} → statement M

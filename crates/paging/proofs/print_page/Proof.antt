@@ -10,7 +10,8 @@ use lib.ListN.{length}
 use Rattle.page_text.specs.Pages.{pageCount, pageText}
 use Rattle.pieces.proofs.Padded.{put-padded}
 use Rattle.given_sheet.specs.Given.{wellFormed, givenSheet}
-use Rattle.page_promise.proofs.PagePromises.{stands-formed, passed-conditions, sheet-refused, buffer-refused, page-refused, page-printed, page-promised}
+use Rattle.given_sheet.proofs.Given.{stands-formed}
+use Rattle.page_promise.proofs.PagePromises.{passed-conditions, sheet-refused, buffer-refused, page-refused, page-printed, page-promised}
 use Rattle.paging.proofs.print_page.Statement.{statement}
 use Rattle.paging.proofs.print_page.Tie as tie
 

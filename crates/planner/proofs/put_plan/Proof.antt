@@ -1,5 +1,5 @@
 -- `planner::put_plan` meets its contract: what is put is what is printed of the outcome, in buffers that are long enough.
-use Rattle.planner.proofs.Printing.{outcome-put}
+use Rattle.promise.proofs.Promises.{least-buffers}
 use borrow.Author.Needs.{needs}
 use Rattle.planner.proofs.put_plan.Statement.{statement}
 use Rattle.planner.proofs.put_plan.Tie as tie
@@ -23,7 +23,7 @@ returns : tie.Need-returns
 returns c =
     let planned = c .before .before .before .before .before in
     let lent = planned .before .before in
-    outcome-put _ (slice-aggregate-plan-and-put (lent .before .before)) (slice-aggregate-plan-and-put-2 (lent .before)) (slice-aggregate-plan-and-put-3 lent)
+    rw (least-buffers _ (slice-aggregate-plan-and-put (lent .before .before)) (slice-aggregate-plan-and-put-2 (lent .before)) (slice-aggregate-plan-and-put-3 lent)) at
     (planned .plan-and-put .ensures .1)
 
 pub put-plan-spec : {M : Type 1} → statement M

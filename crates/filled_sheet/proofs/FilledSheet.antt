@@ -1,4 +1,4 @@
--- The sheet of a filled order is well-formed, so that it is never refused as a sheet handed in, and its pages are those of the order's outcome.
+-- The sheet of a filled order is well-formed, so that it is never refused as a sheet handed in, and what is shown of it is what is shown of the order's outcome.
 -- Assumes nothing.
 use mathlib.Core.Path.{_≡_, sym, _∙_, ap}
 use mathlib.Core.List.{List}
@@ -8,23 +8,20 @@ use lib.ListN.{length, getD}
 use Rattle.buffers.specs.Put.{Put}
 use Rattle.counting.specs.Table.{Table, columns, levelsOf}
 use Rattle.pieces.proofs.Padded.{padded-at}
-use Rattle.step_tables.specs.Sheet.{AllLevels, Sound, SmallEnough}
+use Rattle.step_tables.specs.Sheet.{AllLevels, Sound, SmallEnough, Agree}
 use Rattle.sheets.specs.Steps.{Outcome, filled, refused}
 use Rattle.sheets.specs.Outcome.{outcome}
 use Rattle.sheets.specs.declared.answer.Refusal.{Refusal}
 use Rattle.sheets.specs.declared.answer.Answer.{Answer}
 use Rattle.sheets.specs.declared.answer.Answer.the-variants.{Filled, Refused}
 use Rattle.sheets.proofs.Filled.{filled-sound}
-use Rattle.report.specs.Report.{refusalLine}
+use Rattle.report.specs.Report.{refusalLine, outcomeBy}
 use Rattle.given_sheet.specs.Given.{WellFormed, givenSheet}
 use Rattle.layout.specs.Bytes.{Holds, sheetIn}
 use Rattle.layout.specs.declared.Size.{Size}
 use Rattle.layout.proofs.Sheets.{holds-agrees}
 use Rattle.promise.specs.Promise.{suffice, planned, answerTo, tableBytes, levelBytes, Promise}
 use Rattle.promise.proofs.Promises.{long-enough, refused-unfilled, filled-answer, asked-first, padded-holds}
-use Rattle.page_report.specs.PageReport.{sheetPages, outcomePages}
-use Rattle.page_argument.specs.declared.Asked.{Asked}
-use Rattle.page_printing.proofs.Agreement.{pages-agree}
 
 -- a refused answer is an outcome's
 refused-answer : (o : Outcome) {why : Refusal} → answerTo o ≡ Refused why → o ≡ refused why
@@ -87,26 +84,21 @@ module _ {list table levels scratch : List ℕ} {answer : Answer} {table′ leve
           in-range = even .in-range;
         }
 
-    -- and its pages are those of the outcome
-    filled-pages : (asked : Asked) → sheetPages asked (givenSheet N m levels′ table′) ≡ outcomePages asked (planned list (length table) (length levels) (length scratch))
-    unfolding outcomePages givenSheet sheetIn
-    filled-pages asked =
+    -- and looks the same as that of the outcome
+    filled-alike : let of = sheet-of in Agree (of .sheet) (givenSheet N m levels′ table′)
+    unfolding givenSheet sheetIn
+    filled-alike =
         let of = sheet-of in
         let size : Size = record { runs = N; columns = m; spare = spared } in
-        let alike = holds-agrees (of .sheet) table′ levels′ size (of .holds) (sym (of .runs-are)) (sym (of .columns-are)) (promise .even N m spared is .counts-there) in
-        sym (pages-agree alike asked) ∙ ap (outcomePages asked) (sym (of .planned-is))
+        holds-agrees (of .sheet) table′ levels′ size (of .holds) (sym (of .runs-are)) (sym (of .columns-are)) (promise .even N m spared is .counts-there)
 
-  refused-pages : {why : Refusal} → answer ≡ Refused why → (asked : Asked) → refusalLine why ≡ outcomePages asked (planned list (length table) (length levels) (length scratch))
-  unfolding outcomePages
-  refused-pages {why} is asked =
-      ap (outcomePages asked) (sym (refused-answer (planned list (length table) (length levels) (length scratch)) (sym (promise .answered) ∙ is)))
-
-  -- so what is put of the answer is what is printed of the outcome
-  module _ (asked : Asked) {before after : List ℕ} {at end : ℕ} where
-    pub filled-put : {N m : ℕ} {spared : ℤ} → answer ≡ Filled N m spared → Put before at (sheetPages asked (givenSheet N m levels′ table′)) after end
-        → Put before at (outcomePages asked (planned list (length table) (length levels) (length scratch))) after end
-    filled-put is put = rw (filled-pages is asked) at put
+  -- so what is put of the answer is what is shown of the outcome, where tables that look the same are shown alike
+  module _ (shown : Table → List ℕ) {before after : List ℕ} {at end : ℕ} where
+    pub filled-put : ((A B : Table) → Agree A B → shown A ≡ shown B) → {N m : ℕ} {spared : ℤ} → answer ≡ Filled N m spared
+        → Put before at (shown (givenSheet N m levels′ table′)) after end
+        → Put before at (outcomeBy shown (planned list (length table) (length levels) (length scratch))) after end
+    filled-put alike is put = rw (sheet-of is .planned-is, alike _ _ (filled-alike is)) put
 
     pub refused-put : {why : Refusal} → answer ≡ Refused why → Put before at (refusalLine why) after end
-        → Put before at (outcomePages asked (planned list (length table) (length levels) (length scratch))) after end
-    refused-put is put = rw (refused-pages is asked) at put
+        → Put before at (outcomeBy shown (planned list (length table) (length levels) (length scratch))) after end
+    refused-put is put = rw (refused-answer (planned list (length table) (length levels) (length scratch)) (sym (promise .answered) ∙ is)) put
