@@ -12,6 +12,9 @@ ghost use lib.ListN.{length};
 use input::scan_input;
 use libc::STDOUT_FILENO;
 use paging::print_page;
+use stored_calls::least;
+use stored_calls::number_at;
+use stored_calls::repeat;
 use words::Scanned;
 
 fn main() {
@@ -90,40 +93,6 @@ fn print_and_write(
         &mut page[..room],
     );
     write_answer(answer, &page[..room]);
-}
-
-// The lesser of two numbers.
-fn least(a: usize, b: usize) -> usize
-    ensures { λ r. ⌜ (r ≤ a) × (r ≤ b) ⌝ }
-{
-    if a < b {
-        return a;
-    }
-    b
-}
-
-// The number at a place of a list, or 0 after its end.
-fn number_at(list: &[u16], at: usize) -> usize
-    ensures { λ r. ⌜ r ≤ 65535 ⌝ }
-{
-    if at < list.len() {
-        return list[at] as usize;
-    }
-    0
-}
-
-// Fills a buffer with some numbers of a list, over and over; with none it stays as it is.
-fn repeat(list: &[u16], start: usize, count: usize, bytes: &mut [u8])
-    requires { ⌜ (start ≤ 65536) × (count ≤ 65536) ⌝ }
-{
-    if count == 0 {
-        return;
-    }
-    let mut i = 0;
-    while i < bytes.len() {
-        bytes[i] = (number_at(list, start + i % count) % 256) as u8;
-        i += 1;
-    }
 }
 
 // Writes an answer, how many bytes are not zero that should be, and the page that was printed.

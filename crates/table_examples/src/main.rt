@@ -9,6 +9,7 @@ ghost use lib.ListN.{length};
 use decimals::put_signed;
 use input::scan_input;
 use libc::STDOUT_FILENO;
+use stored_calls::least;
 use words::Scanned;
 use written_check::check_numbers;
 use written_check::check_written;
@@ -50,16 +51,6 @@ fn answer_call(list: &[u16], at: usize) -> usize
 // A number of the list as a length.
 fn wide(number: u16) -> usize {
     number as usize
-}
-
-// The lesser of two numbers.
-fn least(a: usize, b: usize) -> usize
-    ensures { λ r. ⌜ (r ≤ a) × (r ≤ b) ⌝ }
-{
-    if a < b {
-        return a;
-    }
-    b
 }
 
 // Writes the line of an answer.

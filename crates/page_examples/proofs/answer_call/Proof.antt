@@ -39,7 +39,7 @@ number-at-requires-4 : tie.Need-number-at-requires-4
 number-at-requires-4 c κs = search needs
 
 mul-least : tie.Need-mul-least
-mul-least c = omega (arith, mul-le-mul (c .before .number-at3 .ensures) (c .number-at4 .ensures))
+mul-least c = omega (arith, mul-le-mul (c .before .number-at3 .ensures .1) (c .number-at4 .ensures .1))
 
 least-requires-3 : tie.Need-least-requires-3
 least-requires-3 c κs = search needs

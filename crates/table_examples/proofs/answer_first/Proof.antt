@@ -9,7 +9,7 @@ least-requires : tie.Need-least-requires
 least-requires c κs = search needs
 
 slice-aggregate-answer-calls : tie.Need-slice-aggregate-answer-calls
-slice-aggregate-answer-calls c = sym (length-take-le _ _ (c .before .least .ensures .1))
+slice-aggregate-answer-calls c = sym (length-take-le _ _ (search needs))
 
 answer-calls-requires : tie.Need-answer-calls-requires
 answer-calls-requires c κs = search needs

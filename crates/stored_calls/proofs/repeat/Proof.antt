@@ -1,24 +1,24 @@
--- `page_examples::repeat` is safe: the buffer keeps its length.
-use mathlib.Core.Path.{_≡_}
+-- `stored_calls::repeat` meets its contract. The invariant: the bytes before i are filled.
 use Prim.Native.Nat.{_-_}
 use native.Mathlib.Nat.{mod-lt}
 use native.Mathlib.Omega.{arith}
-use lib.ListN.{length}
 use borrow.Author.Needs.{needs}
-use Rattle.page_examples.proofs.repeat.Statement.{statement}
-use Rattle.page_examples.proofs.repeat.Tie as tie
+use lib.ListN.{length}
+use Rattle.stored_calls.proofs.Repeating.{repeated-none, Repeating, repeating-none, repeating-more}
+use Rattle.stored_calls.proofs.repeat.Statement.{statement}
+use Rattle.stored_calls.proofs.repeat.Tie as tie
 
 abbrev Inv-loop : tie.InvT-loop
-Inv-loop list start count bytes₀ i₀ bytes i = length bytes ≡ length bytes₀
+Inv-loop list start count bytes₀ i₀ bytes i = Repeating list start count bytes₀ bytes i
 
 abbrev μ-loop : tie.MeasureT-loop
 μ-loop list start count bytes₀ i₀ bytes i = length bytes₀ - i
 
 returns : tie.Need-returns Inv-loop μ-loop
-returns c = search needs
+returns c i h = repeated-none _ _ _ i (c .if1 .taken)
 
 loop-holds : tie.Need-loop-holds Inv-loop μ-loop
-loop-holds c = search needs
+loop-holds c = repeating-none _ _ _ _
 
 rem-number-at : tie.Need-rem-number-at Inv-loop μ-loop
 rem-number-at c = search needs
@@ -42,13 +42,15 @@ loop-less : tie.Need-loop-less Inv-loop μ-loop
 loop-less c = search needs
 
 loop-again : tie.Need-loop-again Inv-loop μ-loop
-loop-again c = search needs
+loop-again c =
+    let turn = c .before .before in
+    repeating-more _ _ _ _ _ (turn .loop .inv) (c .before .loop-test .taken) (turn .before .if1 .left) (c .number-at .ensures .0)
 
 same-length : tie.Need-same-length Inv-loop μ-loop
 same-length c = search needs
 
 returns-2 : tie.Need-returns-2 Inv-loop μ-loop
-returns-2 c = search needs
+returns-2 c i h = c .before .loop .inv .filled i (omega arith)
 
 pub repeat-spec : {M : Type 1} → statement M
 repeat-spec =
