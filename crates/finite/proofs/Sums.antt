@@ -101,3 +101,9 @@ pub sum-le : {n m : ℕ} (f : ℕ → ℕ) → n ≤ m → sum n f ≤ sum m f
 sum-le {n} f h =
     let (k, e) = le-dest h in
     rw (← e, sum-split n k f) (le-add-right _ _)
+
+-- a sum of n numbers of which none is above k
+pub sum-most : (n k : ℕ) {f : ℕ → ℕ} → ((i : ℕ) → i < n → f i ≤ k) → sum n f ≤ n * k
+unfolding sum
+sum-most zero k most = omega arith
+sum-most (suc n) k most = omega (arith, sum-most n k (λ i h. most i (le-step h)), most n (lt-suc-self n), suc-mul n k)
