@@ -1,7 +1,9 @@
-// The planner, its pages, and the check of a table, for programs in Rust, C and other languages: numbers and slices alone. include/yurbantze.h is the declaration for C.
+// The planner, its pages and charges, and the check of a table, for programs in Rust, C and other languages: numbers and slices alone. include/yurbantze.h is the declaration for C.
+ghost use Rattle.charges.specs.ChargePromise.{ChargePromise};
 ghost use Rattle.page_promise.specs.PagePromise.{PagePromise};
 ghost use Rattle.promise.specs.PromiseInNumbers.{PromiseInNumbers};
 ghost use Rattle.written_table.specs.CheckInNumbers.{CheckInNumbers};
+use charging::charge_sheet;
 use construction::plan;
 use numbering::answer_numbers;
 use numbering::answer_spare;
@@ -43,6 +45,26 @@ pub extern "C" fn yurbantze_page(
     ensures { λ r. ⌜ PagePromise runs columns (now (levels .entry)) (now (table .entry)) number (now (page .entry)) r (now (page .exit)) ⌝ }
 {
     print_page(table, levels, runs, columns, number, page)
+}
+
+// Charges a sheet by a price list (02, K7), as `charging::charge_sheet` does: 0, or the number of the refusal. Beside it is the charge in pence, and 0 for a
+// refusal. Nothing is required of a caller here either.
+#[no_mangle]
+pub extern "C" fn yurbantze_charge(
+    table: &[u8],
+    levels: &[u8],
+    runs: usize,
+    columns: usize,
+    run_price: u32,
+    prices: &[u32],
+    discount: u32,
+    charge: &mut u64,
+) -> usize
+    ensures { λ r. ⌜ ChargePromise runs columns (now (levels .entry)) (now (table .entry)) «run_price» (now (prices .entry)) discount r (now (charge .exit)) ⌝ }
+{
+    let quote = charge_sheet(table, levels, runs, columns, run_price, prices, discount);
+    *charge = quote.charge;
+    quote.answer
 }
 
 // Checks a table that is handed in by itself (02, K5), as `written_check::check_written` does: kind 1, rows, columns, level counts and entries. The answer
