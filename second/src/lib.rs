@@ -1,4 +1,4 @@
-//! A second implementation of the planner of document 01 with requests K1 to K6 of document 02,
+//! A second implementation of the planner of document 01 with requests K1 to K7 of document 02,
 //! written from these documents alone and as plainly as possible, to be compared with the proved one.
 //! "01" and "02" in comments are those documents.
 //!
@@ -7,16 +7,23 @@
 //! - `steps`: questions 5 to 8 and what each step leaves;
 //! - `field`: sums and products of the seven fields, and the sum that goes with a matrix;
 //! - `text`: words in, printed runs out;
+//! - `sheets`: sheets that are handed in;
 //! - `pages`: a sheet's pages on paper;
+//! - `charges`: what a sheet costs;
 //! - `checker`: the check of one table by itself;
 //! - `maker`: random orders for the vectors and the tests; the planner does not use it;
 //! - `records`: orders with their answers as stored texts; the planner does not use it;
 //! - `gap_tables`: tables that show which pair refusal 5 names; the planner does not use it;
 //! - `page_calls`: calls for pages with their answers, stored and random; the planner does not use it;
-//! - `table_calls`: the same for the check of a table.
+//! - `table_calls`: the same for the check of a table;
+//! - `charge_calls`: the same for charges;
+//! - `call_texts`: what texts of calls share in which a sheet is handed in.
 
 #![forbid(unsafe_code)]
 
+mod call_texts;
+pub mod charge_calls;
+pub mod charges;
 pub mod checker;
 mod counting;
 pub mod field;
@@ -26,6 +33,7 @@ pub mod order;
 pub mod page_calls;
 pub mod pages;
 pub mod records;
+mod sheets;
 mod steps;
 pub mod table_calls;
 mod text;
@@ -91,6 +99,12 @@ pub fn plan_text(text: &[u8], [table_len, levels_len, scratch_len]: Lengths) -> 
         Ok(list) => plan(&list, table_len, levels_len, scratch_len),
         Err(refusal) => refusal,
     }
+}
+
+/// The sheet of an order's text, or its refusal.
+fn sheet_of_text(text: &[u8]) -> Result<order::Table, Answer> {
+    let [table_len, levels_len, scratch_len] = LEAST;
+    last_sheet(&scan(text)?, table_len, levels_len, scratch_len)
 }
 
 /// The sheet that the last step leaves, or the refusal of the first question answered No.

@@ -18,8 +18,8 @@ mod random;
 
 pub use random::{make, Limits, ANY, STORED};
 
+use crate::call_texts::{counted, over_and_over, read_calls, read_counted};
 use crate::pages::{page, PAGE_LENGTH};
-use crate::scan;
 use crate::text::spaced;
 
 /// The limits of the program that tries stored calls: its buffers have a fixed size, and it lends the
@@ -49,13 +49,7 @@ impl PageCall {
     }
 
     pub fn table(&self) -> Vec<u8> {
-        match self.pattern.as_slice() {
-            [] => vec![0; self.table_len()],
-            pattern => {
-                let over_and_over = pattern.iter().copied().cycle();
-                over_and_over.take(self.table_len()).collect()
-            }
-        }
+        over_and_over(&self.pattern, self.table_len())
     }
 
     /// The answer, with the page in a buffer that the caller lends.
@@ -91,12 +85,6 @@ impl PageCall {
     }
 }
 
-/// How many bytes there are, and the bytes.
-fn counted(bytes: &[u8]) -> Vec<usize> {
-    let numbers = bytes.iter().map(|&byte| byte.into());
-    [bytes.len()].into_iter().chain(numbers).collect()
-}
-
 /// The seed of the first random call; each of the others has the next number.
 const SEED: u64 = 20_261_116;
 const RANDOM: u64 = 300;
@@ -115,21 +103,14 @@ pub fn answers(text: &[u8]) -> Vec<u8> {
 
 /// The calls of a text.
 pub fn read(text: &[u8]) -> Vec<PageCall> {
-    let list = scan(text).expect("a text of calls has decimal numbers alone, and not too many");
-    let mut numbers = list.into_iter().map(usize::from).peekable();
-    let mut calls = Vec::new();
-    while numbers.peek().is_some() {
-        calls.push(read_call(&mut numbers));
-    }
-    calls
+    read_calls(text, read_call)
 }
 
-fn read_call(numbers: &mut impl Iterator<Item = usize>) -> PageCall {
-    let mut next = || numbers.next().expect("no call is cut off");
+fn read_call(next: &mut dyn FnMut() -> usize) -> PageCall {
     let [runs, columns, number, room] = [next(), next(), next(), next()];
-    let levels = read_counted(&mut next);
+    let levels = read_counted(next);
     let table_size = [next(), next()];
-    let pattern = read_counted(&mut next);
+    let pattern = read_counted(next);
     PageCall {
         runs,
         columns,
@@ -139,10 +120,4 @@ fn read_call(numbers: &mut impl Iterator<Item = usize>) -> PageCall {
         table_size,
         pattern,
     }
-}
-
-fn read_counted(next: &mut impl FnMut() -> usize) -> Vec<u8> {
-    let length = next();
-    let byte = |number| u8::try_from(number).expect("level counts and entries are bytes");
-    (0..length).map(|_| byte(next())).collect()
 }

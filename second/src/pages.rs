@@ -1,7 +1,8 @@
 //! Run sheets on paper: the pages of a sheet, as request K3 of 02 has them.
 
 use crate::order::Table;
-use crate::{last_sheet, print, refused, scan, Answer, LEAST};
+use crate::sheets::handed_in;
+use crate::{print, refused, scan, sheet_of_text, Answer};
 use std::ops::Range;
 
 /// The bytes of a page: 60 lines of 79 characters and a line feed.
@@ -49,35 +50,6 @@ fn printed(
         return Err(13);
     }
     Ok(text_of(&sheet, number))
-}
-
-/// A sheet handed in, if it is one: its size and its level counts within the limits of 01, table and
-/// level list long enough, each entry below its level. What they hold beyond that is not looked at.
-fn handed_in(table: &[u8], levels: &[u8], runs: usize, columns: usize) -> Option<Table> {
-    if !(1..=512).contains(&runs) || !(1..=128).contains(&columns) {
-        return None;
-    }
-    let levels = levels.get(..columns)?;
-    let table = table.get(..runs * columns)?;
-    if levels.iter().any(|level| !(2..=64).contains(level)) {
-        return None;
-    }
-    let runs = table.chunks(columns);
-    if runs.clone().any(|run| !all_below(run, levels)) {
-        return None;
-    }
-    Some(Table {
-        levels: numbers(levels),
-        runs: runs.map(numbers).collect(),
-    })
-}
-
-fn all_below(run: &[u8], levels: &[u8]) -> bool {
-    run.iter().zip(levels).all(|(entry, level)| entry < level)
-}
-
-fn numbers(bytes: &[u8]) -> Vec<usize> {
-    bytes.iter().map(|&byte| byte.into()).collect()
 }
 
 /// What stands on a page: columns and runs, both counted from 0 as they stand on the sheet.
@@ -149,8 +121,7 @@ pub fn print_pages(order: &[u8], argument: Option<&[u8]>) -> String {
 }
 
 fn pages_of_order(order: &[u8], argument: Option<&[u8]>) -> Result<String, Answer> {
-    let [table_len, levels_len, scratch_len] = LEAST;
-    let sheet = last_sheet(&scan(order)?, table_len, levels_len, scratch_len)?;
+    let sheet = sheet_of_text(order)?;
     let Some(argument) = argument else {
         let last = page_count(sheet.runs.len(), sheet.levels.len());
         return Ok((1..=last).map(|number| text_of(&sheet, number)).collect());
