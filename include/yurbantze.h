@@ -23,10 +23,11 @@ extern "C" {
 #define YURBANTZE_PAGE_LENGTH 4800
 
 /* The refusals, with their details in order. Columns, factors, steps, ingredients, members and pages count from 1; places, runs, levels and
- * values from 0. Details that are not named are 0. An order is refused by 1 to 11 or 14, a table that is checked by itself by 2 to 5, and a page by 1, 12 or
- * 13, which have no details. */
+ * values from 0. Details that are not named are 0. An order is refused by 1 to 11 or 14, a table that is checked by itself by 2 to 5, a page by 1, 12 or 13,
+ * and a charge by 1 or 15; the refusals of a page and of a charge have no details. */
 enum yurbantze_number {
-    YURBANTZE_FILLED = 0,             /* no refusal: runs, columns; of a page, that it is printed; of a table, that it passes */
+    YURBANTZE_FILLED = 0,             /* no refusal: runs, columns; of a page, that it is printed; of a table, that it passes; of a price list, that it is
+                                         applied */
     YURBANTZE_SHORT_BUFFERS = 1,      /* a buffer is too short; a sheet handed in has runs, columns or a level count outside 1 to 512, 1 to 128 or
                                          2 to 64, an entry that is not below its level, or a table or level list that is too short */
     YURBANTZE_UNREADABLE = 2,         /* place of the first number not allowed or left over, or the length if the list runs out */
@@ -42,8 +43,9 @@ enum yurbantze_number {
     YURBANTZE_TOO_LARGE = 11,         /* step, runs, columns */
     YURBANTZE_SHORT_PAGE = 12,        /* the page buffer is too short */
     YURBANTZE_NO_SUCH_PAGE = 13,      /* page 0, or one past the last */
-    YURBANTZE_UNEVEN_VALUE = 14       /* step, ingredient, column, value; of a CROSS, the first of its matrices that serves a column of the sheet and
+    YURBANTZE_UNEVEN_VALUE = 14,      /* step, ingredient, column, value; of a CROSS, the first of its matrices that serves a column of the sheet and
                                          has an uneven column, the lowest such column and the lowest value in it */
+    YURBANTZE_UNFIT_PRICES = 15       /* the discount is over 100, or there are more or fewer prices than columns */
 };
 
 /* Plans an order, and returns answer[0]: 0 for a filled order, and otherwise the number of the refusal.
@@ -103,6 +105,41 @@ size_t yurbantze_page(
     const uint8_t *levels, size_t levels_length,
     size_t runs, size_t columns, size_t number,
     uint8_t *page, size_t page_length);
+
+/* Works out what a sheet costs by a price list, in pence, and returns 0, or else the number of the refusal: 1 or 15, the first of these that has a cause.
+ *
+ * table, table_length      The sheet's entries, its runs one after the other from byte 0, as yurbantze_plan leaves them: runs * columns bytes or more,
+ *                          each of those below its level; otherwise the sheet is refused as 1. Bytes after them are not looked at.
+ * levels, levels_length    The level count of each column, 2 to 64, in columns bytes or more; otherwise the sheet is refused as 1. Bytes after them are
+ *                          not looked at.
+ * runs, columns            The sheet's size. Any numbers are answered; outside 1 to 512 and 1 to 128 the sheet is refused as 1, whatever the lengths
+ *                          are. The sheet need not be even, nor come from yurbantze_plan.
+ * run_price                The price of a run. Any number is a price, 0 too.
+ * prices, prices_length    The price of a changed level in each column, in the order of the columns: exactly as many as there are columns; otherwise
+ *                          they are refused as 15. Any number is a price.
+ * discount                 The discount in percent, 0 to 100; a higher one is refused as 15.
+ * charge                   Room for one number, which is written by every call. Returned 0: the charge. Refused: 0.
+ *
+ * The sum is runs * run_price and, for each run after the first and each column whose level differs from the run before, that column's price; one run has
+ * no changes. The charge is sum * (100 - discount) / 100, rounded to the nearest penny, halves up, once at the end: no other number of pence is the
+ * nearest. Without a discount it is the sum, with 100 percent it is 0, and a higher discount never makes it higher. No sum is above
+ * (512 + 511 * 128) * (2^32 - 1) = 283,124,244,086,400, so that nothing passes 64 bits on the way.
+ *
+ * What charge holds before the call does not matter. table, levels and prices are read and never altered.
+ *
+ * What a caller owes: no pointer is null, not even one whose length is 0. table, levels and prices each point to as many elements as the length says, all
+ * of which have been written, whatever they are, and charge to one; prices and charge are aligned for their types. Nothing else reads or writes charge, or
+ * writes table, levels or prices, during the call, and none of the four lies over another.
+ *
+ * The function allocates nothing and keeps nothing between calls, so several threads may call it, each with a charge of its own. */
+size_t yurbantze_charge(
+    const uint8_t *table, size_t table_length,
+    const uint8_t *levels, size_t levels_length,
+    size_t runs, size_t columns,
+    uint32_t run_price,
+    const uint32_t *prices, size_t prices_length,
+    uint32_t discount,
+    uint64_t *charge);
 
 /* Checks one table, and returns answer[0]: 0 for a table that passes, and otherwise the number of the refusal, 2, 3, 4 or 5.
  *
