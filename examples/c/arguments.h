@@ -10,16 +10,16 @@
 static uint16_t list[32768];
 static size_t answer[YURBANTZE_ANSWER_LENGTH];
 
-/* The number that an argument is. The program ends if it is none. */
-static uint16_t number_of(const char *argument)
+/* The number that an argument is. The program ends if it is none, or a larger one than `most`. */
+static unsigned long number_of(const char *argument, unsigned long most)
 {
     char *end;
     unsigned long number = strtoul(argument, &end, 10);
-    if (end == argument || *end != '\0' || number > 65535) {
-        fprintf(stderr, "no number up to 65535: %s\n", argument);
+    if (end == argument || *end != '\0' || number > most) {
+        fprintf(stderr, "no number up to %lu: %s\n", most, argument);
         exit(2);
     }
-    return (uint16_t)number;
+    return number;
 }
 
 /* Puts the arguments into the list, and returns how many there are. */
@@ -31,7 +31,7 @@ static size_t read_arguments(int argc, char **argv)
         exit(2);
     }
     for (size_t i = 0; i < length; i++)
-        list[i] = number_of(argv[i + 1]);
+        list[i] = (uint16_t)number_of(argv[i + 1], UINT16_MAX);
     return length;
 }
 

@@ -1,6 +1,6 @@
-//! Plans mixed orthogonal run tables, prints them on pages, and checks tables: a safe wrapper of `yurbantze_plan`, `yurbantze_page` and
-//! `yurbantze_check_table`, which are written in Rattle and proved. Their promises are their contracts in crates/exported/src/lib.rt;
-//! include/yurbantze.h says the same in words.
+//! Plans mixed orthogonal run tables, prints them on pages, says what they cost, and checks tables: a safe wrapper of `yurbantze_plan`, `yurbantze_page`,
+//! `yurbantze_charge` and `yurbantze_check_table`, which are written in Rattle and proved. Their promises are their contracts in
+//! crates/exported/src/lib.rt; include/yurbantze.h says the same in words.
 use std::fmt;
 
 /// How long the three buffers must be for an order to be planned.
@@ -36,6 +36,20 @@ extern "C" {
         number: usize,
         page: *mut u8,
         page_length: usize,
+    ) -> usize;
+
+    fn yurbantze_charge(
+        table: *const u8,
+        table_length: usize,
+        levels: *const u8,
+        levels_length: usize,
+        runs: usize,
+        columns: usize,
+        run_price: u32,
+        prices: *const u32,
+        prices_length: usize,
+        discount: u32,
+        charge: *mut u64,
     ) -> usize;
 
     fn yurbantze_check_table(list: *const u16, list_length: usize, answer: *mut [usize; 7], gap: *mut i64) -> usize;
@@ -93,6 +107,18 @@ impl Table {
     /// All pages in order.
     pub fn pages(&self) -> impl Iterator<Item = String> + '_ {
         (1..).map_while(|number| self.page(number))
+    }
+
+    /// What the table costs, in pence: by the price of a run, the price of a changed level in each column, and a discount in percent. There is a charge if
+    /// there are as many prices as columns and the discount is at most 100.
+    pub fn charge(&self, run_price: u32, prices: &[u32], discount: u32) -> Option<u64> {
+        match charge(&self.entries, &self.levels, self.runs, self.levels.len(), run_price, prices, discount) {
+            Ok(pence) => Some(pence),
+            Err(refusal) => {
+                assert_eq!(refusal, ChargeRefusal::UnfitPrices, "a table that was planned is refused by no other number");
+                None
+            }
+        }
     }
 }
 
@@ -214,6 +240,43 @@ impl fmt::Display for PageRefusal {
 
 impl std::error::Error for PageRefusal {}
 
+/// Why a sheet has no charge.
+#[derive(Clone, Copy, Debug, PartialEq, Eq)]
+pub enum ChargeRefusal {
+    /// As `PageRefusal::NotASheet`, whatever the price list is.
+    NotASheet,
+    /// The discount is over 100, or there are more or fewer prices than columns.
+    UnfitPrices,
+}
+
+impl ChargeRefusal {
+    // The refusal of a number that is not 0. The promise says that there are no others.
+    fn from_number(number: usize) -> ChargeRefusal {
+        match number {
+            1 => ChargeRefusal::NotASheet,
+            15 => ChargeRefusal::UnfitPrices,
+            _ => unreachable!("no charge is refused by the number {number}"),
+        }
+    }
+
+    /// The number of the refusal. It has no details.
+    pub fn number(self) -> usize {
+        match self {
+            ChargeRefusal::NotASheet => 1,
+            ChargeRefusal::UnfitPrices => 15,
+        }
+    }
+}
+
+impl fmt::Display for ChargeRefusal {
+    /// The line that a program prints, without its line feed.
+    fn fmt(&self, f: &mut fmt::Formatter<'_>) -> fmt::Result {
+        write!(f, "refused {} 0 0 0 0 0 0", self.number())
+    }
+}
+
+impl std::error::Error for ChargeRefusal {}
+
 /// The numbers of runs and columns of a table that was written into buffers, and how much it could still hold (`Table::spare`).
 #[derive(Clone, Copy, Debug, PartialEq, Eq)]
 pub struct Size {
@@ -284,6 +347,35 @@ pub fn page(table: &[u8], levels: &[u8], runs: usize, columns: usize, number: us
     match answer {
         0 => Ok(()),
         _ => Err(PageRefusal::from_number(answer)),
+    }
+}
+
+/// What a sheet costs, in pence: the entries are in `table`, run by run, and the level counts in `levels`. The sum is runs × `run_price` and, for each run
+/// after the first and each column whose level differs from the run before, that column's price in `prices`; the charge is the sum less `discount` percent,
+/// rounded to the nearest penny, halves up, once at the end. Any numbers and bytes are answered, and the sheet need not be even.
+pub fn charge(table: &[u8], levels: &[u8], runs: usize, columns: usize, run_price: u32, prices: &[u32], discount: u32) -> Result<u64, ChargeRefusal> {
+    let mut pence = 0;
+    // SAFETY: each of the first three pointers is a reference's, with the length of its slice, and so is not null, is aligned, and points to initialised
+    // elements; the references are borrowed until the call returns. The last is that of a local variable, which nothing else borrows. The function requires
+    // nothing else, and its proof says that it reads and writes within those lengths.
+    let answer = unsafe {
+        yurbantze_charge(
+            table.as_ptr(),
+            table.len(),
+            levels.as_ptr(),
+            levels.len(),
+            runs,
+            columns,
+            run_price,
+            prices.as_ptr(),
+            prices.len(),
+            discount,
+            &mut pence,
+        )
+    };
+    match answer {
+        0 => Ok(pence),
+        _ => Err(ChargeRefusal::from_number(answer)),
     }
 }
 
