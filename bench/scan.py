@@ -1,10 +1,10 @@
 #!/usr/bin/env python3
-"""scan.py PROGRAM SECOND N SEED [pages|checker]: N random texts on the standard input of both programs, outputs compared.
+"""scan.py PROGRAM SECOND N SEED [pages|checker|pricer]: N random texts on the standard input of both programs, outputs compared.
 
 PROGRAM is given each text in pieces cut at random places, and the next piece only when it has read the one before, so that no read goes over a cut;
-SECOND is given the text whole. The texts are orders, whole or damaged, and streams of bytes. With `pages` both programs are given random arguments too,
-and more of the texts are whole orders. With `checker` the texts have single tables in the place of orders, right and wrong ones, and more of them are
-whole. The same SEED makes the same texts, cuts and arguments.
+SECOND is given the text whole. The texts are orders, whole or damaged, and streams of bytes. With `pages` and with `pricer` both programs are given random
+arguments too, and more of the texts are whole orders. With `checker` the texts have single tables in the place of orders, right and wrong ones, and more of
+them are whole. The same SEED makes the same texts, cuts and arguments.
 """
 
 import collections
@@ -34,8 +34,12 @@ STRANGE_WORDS = [
 # Orders, as lists of numbers.
 
 
-def order(ingredients, steps):
-    return [len(ingredients), *sum(ingredients, []), len(steps), *sum(steps, [])]
+class Order(list):
+    """The numbers of an order, and how many columns its sheet has where it is filled."""
+
+    def __init__(self, ingredients, steps, columns):
+        super().__init__([len(ingredients), *sum(ingredients, []), len(steps), *sum(steps, [])])
+        self.columns = columns
 
 
 def parity(a, b):
@@ -50,29 +54,31 @@ def parity_table(runs, columns):
 def house_order(rng):
     """TAKE of a house table; of 101 with MERGE and SPLIT in turn."""
     number = rng.randint(101, 104)
-    steps = [[1, number]]
+    steps, columns = [[1, number]], {101: 3, 102: 4, 103: 5, 104: 3}[number]
     if number == 101:
         steps += [[4, 2, 1, 2, 3], [5, 1, 101]] * 7
         steps = steps[: rng.randint(1, 15)]
-    return order([], steps)
+        columns = 1 if steps[-1][0] == 4 else 3
+    return Order([], steps, columns)
 
 
 def table_order(rng):
     runs = 2 ** rng.randint(1, 6)
-    return order([parity_table(runs, rng.randint(1, runs - 1))], [[1, 1]])
+    columns = rng.randint(1, runs - 1)
+    return Order([parity_table(runs, columns)], [[1, 1]], columns)
 
 
 def large_order(rng):
     """Nearly as many words as are allowed."""
     runs, columns = rng.choice([(512, 63), (256, 127)])
-    return order([parity_table(runs, columns)], [[1, 1]])
+    return Order([parity_table(runs, columns)], [[1, 1]], columns)
 
 
 def full_order(rng):
     """As many words as are allowed: a matrix of one column makes up the number."""
     table = parity_table(512, 63)
     rows = MOST_WORDS - len(table) - 8
-    return order([table, [2, rows, 1, 2, *[rng.randrange(2) for _ in range(rows)]]], [[1, 1]])
+    return Order([table, [2, rows, 1, 2, *[rng.randrange(2) for _ in range(rows)]]], [[1, 1]], 63)
 
 
 def field_order(rng):
@@ -82,7 +88,7 @@ def field_order(rng):
     n = rng.randint(1, min(128, s ** (t - 1)))
     columns = [[1, *(number // s**place % s for place in range(t - 1))] for number in rng.sample(range(s ** (t - 1)), n)]
     entries = [column[row] for row in range(t) for column in columns]
-    return order([[3, t, n, s, *[1] * n, *entries]], [[2, 1]])
+    return Order([[3, t, n, s, *[1] * n, *entries]], [[2, 1]], n)
 
 
 def sum_order(rng):
@@ -90,7 +96,7 @@ def sum_order(rng):
     rows = 2 ** rng.randint(1, 4)
     columns = rng.randint(1, min(runs - 1, 128 // rows))
     matrix = [2, rows, rows, 2, *(parity(y, c) for y in range(rows) for c in range(rows))]
-    return order([parity_table(runs, columns), matrix], [[1, 1], [3, 1, 2, 0]])
+    return Order([parity_table(runs, columns), matrix], [[1, 1], [3, 1, 2, 0]], columns * rows)
 
 
 def cross_order(rng):
@@ -100,7 +106,7 @@ def cross_order(rng):
     columns = rng.randint(1, min(runs - 1, 128 // rows))
     first = rng.choices([0, 1], [20, 80])[0]
     matrix = [2, rows, rows - first, 2, *(parity(y, c) for y in range(rows) for c in range(first, rows))]
-    return order([parity_table(runs, columns), matrix], [[1, 1], [6, 1, 2, 0, 1]])
+    return Order([parity_table(runs, columns), matrix], [[1, 1], [6, 1, 2, 0, 1]], columns * (rows - first + 1))
 
 
 def any_order(rng):
@@ -255,12 +261,59 @@ def page_arguments(rng):
     return [page_argument(rng) for _ in range(rng.choices([0, 1, 2], [15, 75, 10])[0])]
 
 
+# Arguments of a program that works out charges: RUN COLUMN.. DISCOUNT.
+
+# Words that are no number of 32 bits, or look as if they were none. A zero byte would end an argument.
+STRANGE_PRICES = [
+    *(this for this in STRANGE_WORDS if b"\0" not in this),
+    b"", b" ", b" 1", b"1 ", b"1 1", b"1\n", b"\t1", b"4294967295", b"4294967297", b"4294967300", b"42949672950",
+    b"0" * 5000 + b"4294967295", b"0" * 5000 + b"4294967296",
+]
+
+
+def price(rng):
+    return rng.choice([0, 1, 49, 50, 51, rng.randrange(100), rng.randrange(10000), rng.randrange(2**32), 2**32 - 1])
+
+
+def discount(rng):
+    """Mostly one up to 100."""
+    right = [0, 1, 50, 99, 100, rng.randint(0, 100)]
+    wrong = [101, 102, 200, 256, 356, 65536, 65636, 2**32 - 1]
+    return rng.choice(right if rng.random() < 0.9 else wrong)
+
+
+def price_count(rng, columns):
+    """Mostly one price for each column."""
+    if rng.random() < 0.85:
+        return columns
+    return rng.choice([0, columns - 1, columns + 1, columns + 2, 127, 128, 129, 130, 300])
+
+
+def price_arguments(rng, columns):
+    """A price list, now and then with a strange word in it, or cut off after a few words."""
+    numbers = [price(rng) for _ in range(1 + price_count(rng, columns))]
+    words = [word(rng, number) for number in [*numbers, discount(rng)]]
+    if rng.random() < 0.12:
+        words[rng.randrange(len(words))] = rng.choice(STRANGE_PRICES)
+    return words[: rng.randint(0, 2)] if rng.random() < 0.04 else words
+
+
+# What the programs are given.
+
+
+def often_whole_text(rng, numbers):
+    return whole_text(rng, numbers) if rng.random() < 0.7 else make_text(rng, numbers)
+
+
 def text_and_arguments(rng, program):
     if program == "planner":
         return make_text(rng, any_order), []
-    numbers = any_order if program == "pages" else any_table
-    text = whole_text(rng, numbers) if rng.random() < 0.7 else make_text(rng, numbers)
-    return text, page_arguments(rng) if program == "pages" else []
+    if program == "checker":
+        return often_whole_text(rng, any_table), []
+    if program == "pages":
+        return often_whole_text(rng, any_order), page_arguments(rng)
+    made = any_order(rng)
+    return often_whole_text(rng, lambda _rng: made), price_arguments(rng, made.columns)
 
 
 def cut(rng, text):
@@ -310,7 +363,7 @@ def output_in_pieces(command, pieces):
 
 
 def kind_of(output):
-    """By the first word, which is a number where an order is filled or a page printed."""
+    """By the first word, which is a number where an order is filled, a page printed or a sheet charged."""
     words = output.split(maxsplit=2)
     if words[:1] == [b"refused"]:
         return "refused " + words[1].decode()
@@ -318,8 +371,8 @@ def kind_of(output):
 
 
 def main():
-    if len(sys.argv) not in (5, 6) or sys.argv[5:] not in ([], ["pages"], ["checker"]):
-        sys.exit("scan.py PROGRAM SECOND N SEED [pages|checker]")
+    if len(sys.argv) not in (5, 6) or sys.argv[5:] not in ([], ["pages"], ["checker"], ["pricer"]):
+        sys.exit("scan.py PROGRAM SECOND N SEED [pages|checker|pricer]")
     program, second = sys.argv[1:3]
     count, seed = map(int, sys.argv[3:5])
     kind_of_program = sys.argv[5] if len(sys.argv) == 6 else "planner"

@@ -6,11 +6,14 @@
 //! sum for all columns, SPLIT by house table 101, no other house table, no refusal of a generator, and of
 //! a step no other than 10 and 14. For an order that needs more the answer is None.
 //!
-//! `pages` is apart from that, and whole: any page of any sheet. So is `tables`: the check of any table.
+//! `pages` is apart from that, and whole: any page of any sheet. So are `tables`, the check of any table,
+//! and `charges`, what any sheet costs by any price list.
 
 mod build;
+pub mod charges;
 pub mod common_bits;
 mod count;
+mod handed_in;
 mod merge;
 mod nine;
 pub mod pages;

@@ -1,5 +1,5 @@
-//! `bench [PLANNER]`: how long the proved planner, a proved page and the proved check of a table take,
-//! always as a ratio to something else.
+//! `bench [PLANNER]`: how long the proved planner, a proved page, the proved check of a table and a
+//! proved charge take, always as a ratio to something else.
 
 #![forbid(unsafe_code)]
 
@@ -7,10 +7,12 @@ use bench::checkers;
 use bench::fast;
 use bench::orders::{cases, least_order, merge_cases, table_order, Case, MergeCase};
 use bench::planners::{plain, proved, Buffers, Outcome};
+use bench::pricers::{self, Pricer};
 use bench::printers::{self, Printer};
-use bench::sheets::{page_cases, PageCase};
+use bench::sheets::{charge_cases, page_cases, ChargeCase, PageCase, Sheet};
 use bench::tables::{table_cases, TableCase};
 use bench::timing::{least_times, ratio, time_of, Effort};
+use second::charges::Quote;
 use second::pages::PAGE_LENGTH;
 use second::LEAST;
 use std::env;
@@ -53,6 +55,10 @@ fn main() -> io::Result<()> {
     println!("\nproved check of a table by itself / second implementation, and / fast safe Rust");
     for case in table_cases() {
         print_check_times(&case);
+    }
+    println!("\nproved charge / second implementation, and / fast safe Rust");
+    for case in charge_cases() {
+        print_charge_times(&case);
     }
     println!("\nproved planner / pairs counted by common bits, what a later request could gain");
     for case in &cases[..2] {
@@ -157,8 +163,9 @@ fn print_page_times(case: &PageCase) {
 }
 
 fn put_page(printer: Printer, case: &PageCase, number: usize, buffer: &mut [u8]) -> usize {
-    let PageCase { runs, columns, .. } = *case;
-    printer(&case.table, &case.levels, runs, columns, number, buffer)
+    let Sheet { runs, columns, .. } = case.sheet;
+    let Sheet { table, levels, .. } = &case.sheet;
+    printer(table, levels, runs, columns, number, buffer)
 }
 
 /// Also on the bytes past the page.
@@ -190,6 +197,43 @@ fn print_check_times(case: &TableCase) {
     });
     let ratios: Vec<f64> = times[1..].iter().map(|&t| ratio(times[0], t)).collect();
     print_line(&case.name, &ratios);
+}
+
+fn print_charge_times(case: &ChargeCase) {
+    let quotes = pricers::ALL.map(|pricer| quote(pricer, case));
+    assert!(
+        quotes.windows(2).all(|two| two[0] == two[1]),
+        "an answer or a charge differs"
+    );
+    assert_eq!(quotes[0].answer, 0, "there is a charge");
+    let times = least_times(CALLS, pricers::ALL.len(), |which| {
+        time_of(|| {
+            for _ in 0..case.times {
+                black_box(quote(pricers::ALL[which], black_box(case)));
+            }
+        })
+    });
+    let ratios: Vec<f64> = times[1..].iter().map(|&t| ratio(times[0], t)).collect();
+    print_line(&case.name, &ratios);
+}
+
+fn quote(pricer: Pricer, case: &ChargeCase) -> Quote {
+    let Sheet { runs, columns, .. } = case.sheet;
+    let Sheet { table, levels, .. } = &case.sheet;
+    let ChargeCase {
+        run_price,
+        discount,
+        ..
+    } = *case;
+    pricer(
+        table,
+        levels,
+        runs,
+        columns,
+        run_price,
+        &case.prices,
+        discount,
+    )
 }
 
 /// Tables of so many runs and columns, each with its time against that of the one before.

@@ -1,13 +1,15 @@
-//! `compare N SEED`: N made orders, N made calls for pages and N made tables, with the seeds from SEED
-//! on, through the static library, with other bytes in the buffers before each call. Answer, six
-//! details, the spare of a filled order, the gap of a table and every byte of the buffers are compared
-//! with the second implementation's.
+//! `compare N SEED`: N made orders, N made calls for pages, N made tables and N made calls for charges,
+//! with the seeds from SEED on, through the static library, with other bytes in the buffers before each
+//! call. Answer, six details, the spare of a filled order, the gap of a table, the charge and every byte
+//! of the buffers are compared with the second implementation's.
 
 #![forbid(unsafe_code)]
 
 use bench::checkers;
 use bench::planners::{plain, proved, Buffers};
+use bench::pricers::{self, Pricer};
 use bench::printers::proved as proved_page;
+use second::charge_calls;
 use second::maker::{self, make, make_crossing, make_uneven, Call, Random};
 use second::page_calls::{self, PageCall};
 use second::table_calls;
@@ -35,7 +37,9 @@ fn compare(seeds: Range<u64>) -> ExitCode {
     pages.print("calls for pages", "printed", &seeds);
     let tables = Findings::of(seeds.clone(), try_table);
     tables.print("tables", "passing", &seeds);
-    let findings = [orders, pages, tables];
+    let charges = Findings::of(seeds.clone(), try_charge);
+    charges.print("calls for charges", "charged", &seeds);
+    let findings = [orders, pages, tables, charges];
     let all_agree = findings.iter().all(|of| of.differing.is_empty());
     ExitCode::from(u8::from(!all_agree))
 }
@@ -124,6 +128,29 @@ fn try_table(seed: u64) -> Trial {
     Trial {
         number: wanted.numbers[0],
         agrees: checkers::proved(&list) == wanted,
+    }
+}
+
+/// The proved charge, and the fastest one, which is written for any call.
+fn try_charge(seed: u64) -> Trial {
+    let call = charge_calls::make(seed, &charge_calls::ANY);
+    let wanted = call.quote();
+    let table = call.table();
+    let agrees = |pricer: &Pricer| {
+        let quote = pricer(
+            &table,
+            &call.levels,
+            call.runs,
+            call.columns,
+            call.run_price,
+            &call.prices,
+            call.discount,
+        );
+        quote == wanted
+    };
+    Trial {
+        number: wanted.answer,
+        agrees: pricers::ALL.iter().all(agrees),
     }
 }
 

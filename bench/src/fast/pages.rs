@@ -1,12 +1,11 @@
 //! The fastest safe Rust for a page of a sheet that is handed in; 02, K3.
 
+use super::handed_in::{is_a_sheet, MOST_COLUMNS, MOST_RUNS};
+
 const LINE: usize = 80;
 const PAGE: usize = 60 * LINE;
 const COLUMNS: usize = 25;
 const RUNS: usize = 58;
-
-const MOST_RUNS: usize = 512;
-const MOST_COLUMNS: usize = 128;
 
 pub fn page(
     table: &[u8],
@@ -44,35 +43,6 @@ fn refusal(
     } else {
         0
     }
-}
-
-fn is_a_sheet(table: &[u8], levels: &[u8], runs: usize, columns: usize) -> bool {
-    (1..=MOST_RUNS).contains(&runs)
-        && (1..=MOST_COLUMNS).contains(&columns)
-        && levels.len() >= columns
-        && table.len() >= runs * columns
-        && levels[..columns]
-            .iter()
-            .all(|level| (2..=64).contains(level))
-        && all_below(&table[..runs * columns], &levels[..columns])
-}
-
-/// Compares as many runs at a time as have up to 256 entries, with the level counts for all of them
-/// laid out: so the comparison takes many entries at once, also where a run has few.
-fn all_below(entries: &[u8], levels: &[u8]) -> bool {
-    let mut laid_out = [0; 256];
-    let length = (256 / levels.len() * levels.len()).min(entries.len());
-    for limits in laid_out[..length].chunks_exact_mut(levels.len()) {
-        limits.copy_from_slice(levels);
-    }
-    let limits = &laid_out[..length];
-    entries.chunks(length).all(|part| each_below(part, limits))
-}
-
-/// Without a way out in the middle, so that it is done many at a time.
-fn each_below(entries: &[u8], limits: &[u8]) -> bool {
-    let pairs = entries.iter().zip(limits);
-    pairs.fold(true, |below, (entry, limit)| below & (entry < limit))
 }
 
 fn put_page(
