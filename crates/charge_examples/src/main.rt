@@ -13,9 +13,12 @@ use charges::Quote;
 use charging::charge_sheet;
 use input::scan_input;
 use libc::STDOUT_FILENO;
+use stored_calls::StoredSheet;
 use stored_calls::least;
+use stored_calls::long_number_at;
 use stored_calls::number_at;
 use stored_calls::repeat;
+use stored_calls::sheet_at;
 use words::Scanned;
 
 fn main() {
@@ -42,27 +45,32 @@ fn answer_call(list: &[u16], at: usize) -> usize
     ensures { λ r. ⌜ at < r ⌝ }
 {
     let priced = least(number_at(list, at + 6), 255);
-    let levels_at = at + 7 + 2 * priced;
-    let many = least(number_at(list, levels_at), 255);
-    let shape = levels_at + 1 + many;
-    let long = least(number_at(list, shape) * number_at(list, shape + 1), 65536);
-    let given = least(number_at(list, shape + 2), 4096);
-    make_call(list, at, priced, many, long, given);
-    shape + 3 + given
+    let sheet = sheet_at(list, at + 7 + 2 * priced);
+    make_call(list, at, priced, sheet);
+    sheet.cells + sheet.given
 }
 
-// Makes the call at a place of a list, with so many prices of columns, so many level counts, and a table of so many bytes made of so many.
-fn make_call(list: &[u16], at: usize, priced: usize, many: usize, long: usize, given: usize)
-    requires { ⌜ (at < 32768) × (priced ≤ 255) × (many ≤ 255) × (long ≤ 65536) × (given ≤ 4096) ⌝ }
+// Makes the call at a place of a list, with so many prices of columns, for such a sheet.
+fn make_call(list: &[u16], at: usize, priced: usize, sheet: StoredSheet)
+    requires { ⌜ (at < 32768) × (priced ≤ 255) ⌝ }
+    requires { ⌜ (sheet .levels ≤ 65536) × (sheet .counts ≤ 255) × (sheet .bytes ≤ 65536) × (sheet .cells ≤ 65536) × (sheet .given ≤ 4096) ⌝ }
 {
     let mut prices = [0u32; 255];
     let mut levels = [0u8; 255];
     let mut table = io::large_buffer();
-    let levels_at = at + 7 + 2 * priced;
     put_prices(list, at + 7, &mut prices);
-    repeat(list, levels_at + 1, many, &mut levels);
-    repeat(list, levels_at + 1 + many + 3, given, &mut table);
-    charge_and_write(list, at, &table, long, &levels, many, &prices, priced);
+    repeat(list, sheet.levels, sheet.counts, &mut levels);
+    repeat(list, sheet.cells, sheet.given, &mut table);
+    charge_and_write(
+        list,
+        at,
+        &table,
+        sheet.bytes,
+        &levels,
+        sheet.counts,
+        &prices,
+        priced,
+    );
 }
 
 // Puts prices into an array until it is full, from a place of a list on.
@@ -71,16 +79,9 @@ fn put_prices(list: &[u16], start: usize, prices: &mut [u32])
 {
     let mut i = 0;
     while i < prices.len() {
-        prices[i] = price_at(list, start + 2 * i);
+        prices[i] = long_number_at(list, start + 2 * i) as u32;
         i += 1;
     }
-}
-
-// The price at a place of a list, of which the list has the upper half and then the lower one.
-fn price_at(list: &[u16], at: usize) -> u32
-    requires { ⌜ at ≤ 262144 ⌝ }
-{
-    (number_at(list, at) * 65536 + number_at(list, at + 1)) as u32
 }
 
 // Charges the sheet of a call, which is in the fronts of two buffers, by a price list whose prices of columns are in the front of a third, and writes what is answered.
@@ -98,8 +99,8 @@ fn charge_and_write(
 {
     let runs = number_at(list, at);
     let columns = number_at(list, at + 1);
-    let run_price = price_at(list, at + 2);
-    let discount = price_at(list, at + 4);
+    let run_price = long_number_at(list, at + 2) as u32;
+    let discount = long_number_at(list, at + 4) as u32;
     let quote = charge_sheet(
         &table[..long],
         &levels[..many],

@@ -7,14 +7,16 @@
 // bytes l1 .. lL, and its table is A x B bytes, c1 .. cC over and over. Of each are written the answer and how many bytes after the page are not zero, and
 // the page if there is one. The file `stdout`, with which this is compared, is made by the second implementation.
 ghost use mathlib.Core.Path.{_≡_};
-ghost use Prim.Native.Nat.{_+_, _≤_, _<_};
+ghost use Prim.Native.Nat.{_≤_, _<_};
 ghost use lib.ListN.{length};
 use input::scan_input;
 use libc::STDOUT_FILENO;
 use paging::print_page;
+use stored_calls::StoredSheet;
 use stored_calls::least;
 use stored_calls::number_at;
 use stored_calls::repeat;
+use stored_calls::sheet_at;
 use words::Scanned;
 
 fn main() {
@@ -41,24 +43,31 @@ fn answer_call(list: &[u16], at: usize) -> usize
     ensures { λ r. ⌜ at < r ⌝ }
 {
     let room = least(number_at(list, at + 3), 8192);
-    let many = least(number_at(list, at + 4), 255);
-    let shape = at + 5 + many;
-    let long = least(number_at(list, shape) * number_at(list, shape + 1), 65536);
-    let given = least(number_at(list, shape + 2), 4096);
-    make_call(list, at, many, long, given, room);
-    shape + 3 + given
+    let sheet = sheet_at(list, at + 4);
+    make_call(list, at, sheet, room);
+    sheet.cells + sheet.given
 }
 
-// Makes the call at a place of a list, with so many level counts, a table of so many bytes made of so many, and so much room for the page.
-fn make_call(list: &[u16], at: usize, many: usize, long: usize, given: usize, room: usize)
-    requires { ⌜ (at < 32768) × (many ≤ 255) × (long ≤ 65536) × (given ≤ 4096) × (room ≤ 8192) ⌝ }
+// Makes the call at a place of a list, for such a sheet, with so much room for the page.
+fn make_call(list: &[u16], at: usize, sheet: StoredSheet, room: usize)
+    requires { ⌜ (at < 32768) × (room ≤ 8192) ⌝ }
+    requires { ⌜ (sheet .levels ≤ 65536) × (sheet .counts ≤ 255) × (sheet .bytes ≤ 65536) × (sheet .cells ≤ 65536) × (sheet .given ≤ 4096) ⌝ }
 {
     let mut levels = [0u8; 255];
     let mut table = io::large_buffer();
     let mut page = other_bytes();
-    repeat(list, at + 5, many, &mut levels);
-    repeat(list, at + 5 + many + 3, given, &mut table);
-    print_and_write(list, at, &table, long, &levels, many, &mut page, room);
+    repeat(list, sheet.levels, sheet.counts, &mut levels);
+    repeat(list, sheet.cells, sheet.given, &mut table);
+    print_and_write(
+        list,
+        at,
+        &table,
+        sheet.bytes,
+        &levels,
+        sheet.counts,
+        &mut page,
+        room,
+    );
 }
 
 // Bytes that are not zero. The contract tells the length alone, so that no proof writes them out.

@@ -1,8 +1,9 @@
-// What the programs share that answer stored calls: numbers of a list, taken where they stand.
+// What the programs share that answer stored calls and records: numbers of a list, taken where they stand, and the sheet that they make.
 ghost use mathlib.Core.Path.{_≡_};
-ghost use Prim.Native.Nat.{ℕ, _≤_, _<_, min};
+ghost use Prim.Native.Nat.{ℕ, _+_, _*_, _≤_, _<_, min};
 ghost use lib.ListN.{length, getD};
 ghost use Rattle.stored_calls.specs.Repeated.{repeated};
+ghost use Rattle.stored_calls.specs.StoredSheets.{storedSheet};
 
 // The lesser of two numbers.
 pub fn least(a: usize, b: usize) -> usize
@@ -25,6 +26,15 @@ pub fn number_at(list: &[u16], at: usize) -> usize
     0
 }
 
+// The number of 32 bits at a place of a list, which has its upper half and then its lower one.
+pub fn long_number_at(list: &[u16], at: usize) -> usize
+    requires { ⌜ at ≤ 262144 ⌝ }
+    ensures { λ r. ⌜ r ≡ getD (now (list .entry)) at 0 * 65536 + getD (now (list .entry)) (at + 1) 0 ⌝ }
+    ensures { λ r. ⌜ r ≤ 4294967295 ⌝ }
+{
+    number_at(list, at) * 65536 + number_at(list, at + 1)
+}
+
 // Fills a buffer with some numbers of a list, each modulo 256, over and over; with none it stays as it is.
 pub fn repeat(list: &[u16], start: usize, count: usize, bytes: &mut [u8])
     requires { ⌜ (start ≤ 65536) × (count ≤ 65536) ⌝ }
@@ -37,5 +47,36 @@ pub fn repeat(list: &[u16], start: usize, count: usize, bytes: &mut [u8])
     while i < bytes.len() {
         bytes[i] = (number_at(list, start + i % count) % 256) as u8;
         i += 1;
+    }
+}
+
+// A sheet as a call holds it: its level list is the `counts` numbers of the list from the place `levels` on, and its table has so many `bytes`, which are the `given` numbers
+// from the place `cells` on, over and over.
+pub struct StoredSheet {
+    pub levels: usize,
+    pub counts: usize,
+    pub bytes: usize,
+    pub cells: usize,
+    pub given: usize,
+}
+
+// The sheet that a call holds from a place of a list on. However large its numbers are, the programs have room for it.
+pub fn sheet_at(list: &[u16], at: usize) -> StoredSheet
+    requires { ⌜ at ≤ 65536 ⌝ }
+    ensures { λ r. ⌜ r ≡ storedSheet (now (list .entry)) at ⌝ }
+    ensures { λ r. ⌜ (r .counts ≤ 255) × (r .bytes ≤ 65536) × (r .given ≤ 4096) ⌝ }
+    ensures { λ r. ⌜ (r .levels ≡ at + 1) × (r .cells ≡ r .levels + r .counts + 3) ⌝ }
+{
+    let levels = at + 1;
+    let counts = least(number_at(list, at), 255);
+    let shape = levels + counts;
+    let bytes = least(number_at(list, shape) * number_at(list, shape + 1), 65536);
+    let given = least(number_at(list, shape + 2), 4096);
+    StoredSheet {
+        levels,
+        counts,
+        bytes,
+        cells: shape + 3,
+        given,
     }
 }

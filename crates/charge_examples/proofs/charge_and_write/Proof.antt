@@ -14,17 +14,23 @@ add-number-at c = search needs
 number-at-requires-2 : tie.Need-number-at-requires-2
 number-at-requires-2 c κs = search needs
 
-add-price-at : tie.Need-add-price-at
-add-price-at c = search needs
+add-long-number-at : tie.Need-add-long-number-at
+add-long-number-at c = search needs
 
-price-at-requires : tie.Need-price-at-requires
-price-at-requires c κs = search needs
+long-number-at-requires : tie.Need-long-number-at-requires
+long-number-at-requires c κs = search needs
 
-add-price-at-2 : tie.Need-add-price-at-2
-add-price-at-2 c = search needs
+cast-run-price : tie.Need-cast-run-price
+cast-run-price c = search needs
 
-price-at-requires-2 : tie.Need-price-at-requires-2
-price-at-requires-2 c κs = search needs
+add-long-number-at-2 : tie.Need-add-long-number-at-2
+add-long-number-at-2 c = search needs
+
+long-number-at-requires-2 : tie.Need-long-number-at-requires-2
+long-number-at-requires-2 c κs = search needs
+
+cast-discount : tie.Need-cast-discount
+cast-discount c = search needs
 
 slice-aggregate-charge-sheet : tie.Need-slice-aggregate-charge-sheet
 slice-aggregate-charge-sheet c = sym (length-take-le _ _ (search needs))
@@ -51,10 +57,12 @@ charge-and-write-spec =
     number-at-requires
     add-number-at
     number-at-requires-2
-    add-price-at
-    price-at-requires
-    add-price-at-2
-    price-at-requires-2
+    add-long-number-at
+    long-number-at-requires
+    cast-run-price
+    add-long-number-at-2
+    long-number-at-requires-2
+    cast-discount
     slice-aggregate-charge-sheet
     slice-aggregate-charge-sheet-2
     slice-aggregate-charge-sheet-3

@@ -15,14 +15,17 @@ abbrev μ-loop : tie.MeasureT-loop
 loop-holds : tie.Need-loop-holds Inv-loop μ-loop
 loop-holds c = search needs
 
-mul-price-at : tie.Need-mul-price-at Inv-loop μ-loop
-mul-price-at c = search needs
+mul-long-number-at : tie.Need-mul-long-number-at Inv-loop μ-loop
+mul-long-number-at c = search needs
 
-add-price-at : tie.Need-add-price-at Inv-loop μ-loop
-add-price-at c = search needs
+add-long-number-at : tie.Need-add-long-number-at Inv-loop μ-loop
+add-long-number-at c = search needs
 
-price-at-requires : tie.Need-price-at-requires Inv-loop μ-loop
-price-at-requires c κs = search needs
+long-number-at-requires : tie.Need-long-number-at-requires Inv-loop μ-loop
+long-number-at-requires c κs = search needs
+
+cast-prices : tie.Need-cast-prices Inv-loop μ-loop
+cast-prices c = search needs
 
 mul-prices : tie.Need-mul-prices Inv-loop μ-loop
 mul-prices c = search needs
@@ -52,9 +55,10 @@ put-prices-spec =
     Inv-loop
     μ-loop
     loop-holds
-    mul-price-at
-    add-price-at
-    price-at-requires
+    mul-long-number-at
+    add-long-number-at
+    long-number-at-requires
+    cast-prices
     mul-prices
     slice-write-prices
     add-i
