@@ -1,8 +1,7 @@
 // One order and its stored answer: an order is planned in buffers that are full of other bytes, and what is printed of it is held to what is stored.
 ghost use mathlib.Core.Path.{_≡_};
 ghost use mathlib.Core.List.{_∷_};
-ghost use Prim.Native.Nat.{_+_, _*_, _≤_, min};
-ghost use lib.ListN.{length, getD};
+ghost use lib.ListN.{length};
 ghost use Rattle.words.specs.Words.{Reading};
 ghost use Rattle.sheets.specs.Steps.{Outcome};
 ghost use Rattle.promise.specs.Promise.{planned};
@@ -19,37 +18,19 @@ use record_texts::Lengths;
 use report::put_refused;
 use sheets::answer::Answer;
 use sheets::answer::Refusal;
+use stored_calls::least;
+use stored_calls::long_number_at;
 use whole_text::scan;
 use words::Scanned;
-
-// The number at a place of a list, or 0 after its end.
-fn number_at(list: &[u16], at: usize) -> usize
-    ensures { λ r. ⌜ r ≡ getD (now (list .entry)) at 0 ⌝ }
-    ensures { λ r. ⌜ r ≤ 65535 ⌝ }
-{
-    if at < list.len() {
-        list[at] as usize
-    } else {
-        0
-    }
-}
-
-// A length written as two numbers.
-fn length_at(list: &[u16], at: usize) -> usize
-    requires { ⌜ at ≤ 4 ⌝ }
-    ensures { λ r. ⌜ r ≡ getD (now (list .entry)) at 0 * 65536 + getD (now (list .entry)) (at + 1) 0 ⌝ }
-{
-    number_at(list, at) * 65536 + number_at(list, at + 1)
-}
 
 // The lengths that some numbers give.
 fn lengths_in(list: &[u16]) -> Lengths
     ensures { λ r. ⌜ r ≡ lengthsIn (now (list .entry)) ⌝ }
 {
     Lengths {
-        table: length_at(list, 0),
-        levels: length_at(list, 2),
-        scratch: length_at(list, 4),
+        table: long_number_at(list, 0),
+        levels: long_number_at(list, 2),
+        scratch: long_number_at(list, 4),
     }
 }
 
@@ -62,13 +43,6 @@ pub fn lengths_of(line: &[u8]) -> Lengths
         Scanned::Numbers { count } => lengths_in(&list[..count]),
         Scanned::Refused { place: _ } => lengths_in(&list[..0]),
     }
-}
-
-// A length that there is room for.
-fn within(length: usize, room: usize) -> usize
-    ensures { λ r. ⌜ r ≡ min length room ⌝ }
-{
-    if length < room { length } else { room }
 }
 
 // A record: an order up to "=", the end of that line, and what is printed of it.
@@ -118,9 +92,9 @@ fn judge_list(list: &[u16], stored: &[u8], lengths: Lengths) -> Judged
     let mut table = [170u8; 66048];
     let mut levels = [187u8; 256];
     let mut scratch = [204u8; 66048];
-    let a = within(lengths.table, 66048);
-    let b = within(lengths.levels, 256);
-    let c = within(lengths.scratch, 66048);
+    let a = least(lengths.table, 66048);
+    let b = least(lengths.levels, 256);
+    let c = least(lengths.scratch, 66048);
     judge_in(
         list,
         stored,

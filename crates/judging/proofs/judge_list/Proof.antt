@@ -8,32 +8,32 @@ use borrow.Author.Needs.{needs}
 use Rattle.judging.proofs.judge_list.Statement.{statement}
 use Rattle.judging.proofs.judge_list.Tie as tie
 
-within-requires : tie.Need-within-requires
-within-requires c κs = search needs
+least-requires : tie.Need-least-requires
+least-requires c κs = search needs
 
-within-requires-2 : tie.Need-within-requires-2
-within-requires-2 c κs = search needs
+least-requires-2 : tie.Need-least-requires-2
+least-requires-2 c κs = search needs
 
-within-requires-3 : tie.Need-within-requires-3
-within-requires-3 c κs = search needs
+least-requires-3 : tie.Need-least-requires-3
+least-requires-3 c κs = search needs
 
 array-borrow-prefix-table : tie.Need-array-borrow-prefix-table
 array-borrow-prefix-table c = search needs
 
 slice-aggregate-judge-in : tie.Need-slice-aggregate-judge-in
-slice-aggregate-judge-in c = sym (length-take-le _ _ (rw length-replicate (omega (arith, c .before .before .before .within .ensures))))
+slice-aggregate-judge-in c = sym (length-take-le _ _ (rw length-replicate (omega (arith, c .before .before .before .least .ensures))))
 
 array-borrow-prefix-levels : tie.Need-array-borrow-prefix-levels
 array-borrow-prefix-levels c = search needs
 
 slice-aggregate-judge-in-2 : tie.Need-slice-aggregate-judge-in-2
-slice-aggregate-judge-in-2 c = sym (length-take-le _ _ (rw length-replicate (omega (arith, c .before .before .before .within2 .ensures))))
+slice-aggregate-judge-in-2 c = sym (length-take-le _ _ (rw length-replicate (omega (arith, c .before .before .before .least2 .ensures))))
 
 array-borrow-prefix-scratch : tie.Need-array-borrow-prefix-scratch
 array-borrow-prefix-scratch c = search needs
 
 slice-aggregate-judge-in-3 : tie.Need-slice-aggregate-judge-in-3
-slice-aggregate-judge-in-3 c = sym (length-take-le _ _ (rw length-replicate (omega (arith, c .before .before .before .within3 .ensures))))
+slice-aggregate-judge-in-3 c = sym (length-take-le _ _ (rw length-replicate (omega (arith, c .before .before .before .least3 .ensures))))
 
 judge-in-requires : tie.Need-judge-in-requires
 judge-in-requires c κs = search needs
@@ -41,9 +41,9 @@ judge-in-requires c κs = search needs
 returns : tie.Need-returns
 returns c =
     let asked = c .before .before .before .before .before .before .before in
-    let first = asked .before .before .within .ensures in
-    let second = asked .before .within2 .ensures in
-    let third = asked .within3 .ensures in
+    let first = asked .before .before .least .ensures in
+    let second = asked .before .least2 .ensures in
+    let third = asked .least3 .ensures in
     judged-alike _ _ (length-take-le _ _ (rw length-replicate (omega (arith, first))) ∙ first)
     (length-take-le _ _ (rw length-replicate (omega (arith, second))) ∙ second)
     (length-take-le _ _ (rw length-replicate (omega (arith, third))) ∙ third)
@@ -53,9 +53,9 @@ pub judge-list-spec : {M : Type 1} → statement M
 judge-list-spec =
     tie.close
     (tie.spec
-    within-requires
-    within-requires-2
-    within-requires-3
+    least-requires
+    least-requires-2
+    least-requires-3
     array-borrow-prefix-table
     slice-aggregate-judge-in
     array-borrow-prefix-levels
