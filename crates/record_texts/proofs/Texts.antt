@@ -11,9 +11,9 @@ use lib.Dec.{eqb, ltb}
 use lib.ListN.{length, getD, take, drop, set, length-append, drop-of-length-le}
 use lib.Seq.{length-take-le, take-all, take-at, take-suc-set, drop-cons}
 use Rattle.lines.proofs.Cases.{by-cases}
-use Rattle.summary.specs.Counts.{recordCounted, answerCounted}
-use Rattle.summary.specs.declared.Tally.{Tally}
-use Rattle.summary.proofs.Counts.{few-counted}
+use Rattle.record_counts.specs.Counts.{recordCounted, answerCounted}
+use Rattle.record_counts.specs.declared.Tally.{Tally}
+use Rattle.record_counts.proofs.Counts.{few-counted}
 use Rattle.record_texts.specs.Record.{lengthsGiven, judged}
 use Rattle.record_texts.specs.Text.{Comparison, isLine, endsItem, afterRecord, afterLengths, afterNothing, afterItemOf, afterItem, afterByte, afterText, start, compared, Compared}
 use Rattle.record_texts.specs.State.{progress, progressOf}

@@ -2,7 +2,7 @@
 use mathlib.Core.List.{List}
 use Prim.Native.Nat.{ℕ}
 use lib.ListN.{take}
-use Rattle.summary.specs.declared.Tally.{Tally}
+use Rattle.record_counts.specs.declared.Tally.{Tally}
 use Rattle.record_texts.specs.Text.{Comparison}
 use Rattle.record_texts.specs.declared.State.{State}
 use Rattle.record_texts.specs.declared.Lengths.{Lengths}

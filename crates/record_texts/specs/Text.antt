@@ -5,8 +5,8 @@ use mathlib.Core.List.{List, [], _∷_, _++_, foldl, flatten}
 use Prim.Native.Nat.{ℕ}
 use lib.Dec.{eqb, ltb}
 use lib.ListN.{length, take, replicate}
-use Rattle.summary.specs.Counts.{recordCounted, answerCounted}
-use Rattle.summary.specs.declared.Tally.{Tally}
+use Rattle.record_counts.specs.Counts.{recordCounted, answerCounted}
+use Rattle.record_counts.specs.declared.Tally.{Tally}
 use Rattle.record_texts.specs.Record.{lengthsGiven, judged}
 use Rattle.record_texts.specs.declared.Lengths.{Lengths}
 

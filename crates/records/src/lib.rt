@@ -24,13 +24,13 @@ ghost use Rattle.record_texts.specs.State.{progress, progressOf};
 use judging::judge;
 use judging::lengths_of;
 use libc::STDIN_FILENO;
+use record_counts::Tally;
+use record_counts::count;
+use record_counts::record_counted;
 use record_texts::Lengths;
 use record_texts::State;
-use summary::Tally;
-use summary::count;
 use summary::print_counts;
 use summary::print_difference;
-use summary::record_counted;
 
 // Room for an item. The contract tells the length alone, so that no proof writes the zeros out.
 fn item_room() -> [u8; 262144]

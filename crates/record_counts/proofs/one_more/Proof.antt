@@ -1,8 +1,8 @@
 -- `one_more` meets its contract.
-use Rattle.summary.proofs.Counts.{more-below, more-last}
+use Rattle.record_counts.proofs.Counts.{more-below, more-last}
 use borrow.Author.Needs.{needs}
-use Rattle.summary.proofs.one_more.Statement.{statement}
-use Rattle.summary.proofs.one_more.Tie as tie
+use Rattle.record_counts.proofs.one_more.Statement.{statement}
+use Rattle.record_counts.proofs.one_more.Tie as tie
 
 add-result : tie.Need-add-result
 add-result c = search needs

@@ -10,8 +10,8 @@ use lib.Dec.{ltb}
 use lib.ListN.{length, getD, set}
 use lib.Seq.{set-out}
 use Rattle.lines.proofs.Cases.{by-cases}
-use Rattle.summary.specs.Counts.{oneMore, recordCounted, answerCounted}
-use Rattle.summary.specs.declared.Tally.{Tally}
+use Rattle.record_counts.specs.Counts.{oneMore, recordCounted, answerCounted}
+use Rattle.record_counts.specs.declared.Tally.{Tally}
 
 abbrev tallied : ℕ → ℕ → Tally
 tallied records differing = record { records = records; differing = differing }

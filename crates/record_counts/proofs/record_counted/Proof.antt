@@ -1,8 +1,8 @@
 -- `record_counted` meets its contract: a record that holds, and one that differs.
-use Rattle.summary.proofs.Counts.{tally-holds, tally-differs}
+use Rattle.record_counts.proofs.Counts.{tally-holds, tally-differs}
 use borrow.Author.Needs.{needs}
-use Rattle.summary.proofs.record_counted.Statement.{statement}
-use Rattle.summary.proofs.record_counted.Tie as tie
+use Rattle.record_counts.proofs.record_counted.Statement.{statement}
+use Rattle.record_counts.proofs.record_counted.Tie as tie
 
 one-more-requires : tie.Need-one-more-requires
 one-more-requires c κs = search needs

@@ -4,7 +4,7 @@ use mathlib.Core.List.{List}
 use Prim.Native.Nat.{ℕ, _+_}
 use lib.Dec.{ltb}
 use lib.ListN.{getD, set}
-use Rattle.summary.specs.declared.Tally.{Tally}
+use Rattle.record_counts.specs.declared.Tally.{Tally}
 
 -- One more; a count stays at the largest number that it can hold, which no text reaches.
 unfoldable pub oneMore : ℕ → ℕ
