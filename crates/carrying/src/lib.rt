@@ -2,7 +2,7 @@
 ghost use lib.ListN.{length};
 ghost use Rattle.layout.specs.Bytes.{Zeros, LongEnough};
 ghost use Rattle.layout.specs.Step.{Left};
-ghost use Rattle.carrying.specs.Carrying.{Passing, allIn, lastIn, handRuns, handLevels};
+ghost use Rattle.sheet_in_hand.specs.Carrying.{Passing, allIn, lastIn, handRuns, handLevels};
 ghost use Rattle.promise.specs.Promise.{Settled};
 use buffers::clear;
 use layout::Size;

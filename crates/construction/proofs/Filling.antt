@@ -24,7 +24,7 @@ use Rattle.question_4.specs.Passing.{passingOf, passingIn}
 use Rattle.question_4.specs.declared.Passing.the-variants.{AllPass, Refused}
 use Rattle.layout.specs.Step.{Readable}
 use Rattle.layout.proofs.Operands.{in-order}
-use Rattle.carrying.specs.Carrying.{Passing, allIn}
+use Rattle.sheet_in_hand.specs.Carrying.{Passing, allIn}
 use Rattle.construction.specs.Filling.{passedIn}
 
 -- ---- question 2

@@ -1,27 +1,20 @@
 // One step of an order, by its number, on the sheet in hand.
-ghost use mathlib.Core.Path.{_≡_};
 ghost use Prim.Native.Nat.{_≤_};
 ghost use Rattle.layout.specs.Bytes.{Zeros};
 ghost use Rattle.layout.specs.Step.{Stands, Left};
-ghost use Rattle.stepping.specs.Stepping.{Prepared, kindAllowed, inHand, numberedIn, proceedIn};
+ghost use Rattle.sheet_in_hand.specs.Stepping.{Prepared, inHand, numberedIn, proceedIn};
 use crossing::cross;
 use generating::field;
 use layout::Size;
 use merging::merge;
 use places::Placed;
+use sheet_in_hand::allowed;
 use sheets::answer::Answer;
 use sheets::answer::Refusal;
 use splitting::split;
 use step_places::step_at;
 use summing::sum;
 use taking::take;
-
-// Question 5, of the kind alone: is the first step of kind 1 or 2, every later one 3 to 6?
-fn allowed(number: usize, kind: usize) -> bool
-    ensures { λ r. ⌜ r ≡ kindAllowed number kind ⌝ }
-{
-    if number == 1 { kind <= 2 } else { kind >= 3 }
-}
 
 // Step number n, of this kind, with its operands at place `at`. Only a later step looks at the size of the sheet in hand: before the first there
 // is none.

@@ -12,7 +12,7 @@ use lib.ListN.{length}
 use Rattle.order.specs.Grammar.{readOrder}
 use Rattle.step_places.specs.StepCount.{stepCount}
 use Rattle.layout.specs.declared.Size.{Size}
-use Rattle.carrying.proofs.Carrying.{Underway, underway-start, underway-numbered, underway-prepared, steps-counted, steps-few, step-refused, step-filled, none-left}
+use Rattle.sheet_in_hand.proofs.Carrying.{Underway, underway-start, underway-numbered, underway-prepared, steps-counted, steps-few, step-refused, step-filled, none-left}
 use Rattle.carrying.proofs.carry_out.Statement.{statement}
 use Rattle.carrying.proofs.carry_out.Tie as tie
 

@@ -2,7 +2,7 @@
 use borrow.Author.Needs.{needs}
 use mathlib.Core.Path.{refl, sym, _∙_}
 use Rattle.layout.specs.Step.{Left}
-use Rattle.stepping.proofs.Stepping.{proceed-found, proceed-missing}
+use Rattle.sheet_in_hand.proofs.Stepping.{proceed-found, proceed-missing}
 use Rattle.stepping.proofs.proceed.Statement.{statement}
 use Rattle.stepping.proofs.proceed.Tie as tie
 

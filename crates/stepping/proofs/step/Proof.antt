@@ -7,8 +7,8 @@ use native.Mathlib.Omega.{arith}
 use borrow.Author.Needs.{needs}
 use borrow.Author.Tests.{not-true, not-false}
 use Rattle.layout.specs.Step.{Left}
-use Rattle.stepping.specs.Stepping.{kindAllowed}
-use Rattle.stepping.proofs.Stepping.{allowed-first, allowed-later, numbered-first, numbered-later, numbered-refused, no-other-kind}
+use Rattle.sheet_in_hand.specs.Stepping.{kindAllowed}
+use Rattle.sheet_in_hand.proofs.Stepping.{allowed-first, allowed-later, numbered-first, numbered-later, numbered-refused, no-other-kind}
 use Rattle.stepping.proofs.step.Statement.{statement}
 use Rattle.stepping.proofs.step.Tie as tie
 

@@ -4,7 +4,7 @@ use mathlib.Core.Path.{refl, sym, _∙_}
 use lib.ListN.{length}
 use Rattle.layout.specs.Bytes.{Zeros}
 use Rattle.layout.proofs.Bytes.{zeros-all}
-use Rattle.carrying.proofs.Carrying.{long-kept}
+use Rattle.sheet_in_hand.proofs.Carrying.{long-kept}
 use Rattle.construction.proofs.Filling.{still-in-range, all-pass, passed-all, passed-refused}
 use Rattle.promise.proofs.Promises.{settled-zeros}
 use Rattle.construction.proofs.fill.check_and_carry_out.Statement.{statement}

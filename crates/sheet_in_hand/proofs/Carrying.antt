@@ -29,8 +29,8 @@ use Rattle.sheets.proofs.Sheets.{first-filled, later-filled}
 use Rattle.sheets.proofs.StepAgreement.{AgreeOutcome, both-filled, both-refused, provided-agree, later-agree}
 use Rattle.layout.specs.Bytes.{Holds, Zeros, LongEnough, sheetIn}
 use Rattle.layout.specs.Step.{Readable, Ready, Left}
-use Rattle.stepping.specs.Stepping.{Prepared, stepOn, inHand, proceedIn}
-use Rattle.carrying.specs.Carrying.{Passing, handAfter, lastHand, allIn, lastIn, handRuns, handLevels}
+use Rattle.sheet_in_hand.specs.Stepping.{Prepared, stepOn, inHand, proceedIn}
+use Rattle.sheet_in_hand.specs.Carrying.{Passing, handAfter, lastHand, allIn, lastIn, handRuns, handLevels}
 use Rattle.layout.specs.declared.Size.{Size}
 use Rattle.promise.proofs.Promises.{refused-unfilled}
 use Rattle.layout.proofs.Operands.{in-order}

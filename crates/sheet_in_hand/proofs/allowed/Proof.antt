@@ -1,8 +1,8 @@
--- `stepping::allowed` meets its contract: the number of the step decides which comparison is asked.
+-- `sheet_in_hand::allowed` meets its contract: the number of the step decides which comparison is asked.
 use borrow.Author.Tests.{eq-eqb, ne-eqb}
-use Rattle.stepping.specs.Stepping.{kindAllowed}
-use Rattle.stepping.proofs.allowed.Statement.{statement}
-use Rattle.stepping.proofs.allowed.Tie as tie
+use Rattle.sheet_in_hand.specs.Stepping.{kindAllowed}
+use Rattle.sheet_in_hand.proofs.allowed.Statement.{statement}
+use Rattle.sheet_in_hand.proofs.allowed.Tie as tie
 
 returns : tie.Need-returns
 unfolding kindAllowed

@@ -25,7 +25,7 @@ use Rattle.layout.specs.Bytes.{sheetIn}
 use Rattle.layout.specs.Step.{Readable, Stands, firstIn, laterIn}
 use Rattle.layout.specs.declared.Size.{Size}
 use Rattle.layout.proofs.Operands.{in-order, first-in, later-in, stands-step}
-use Rattle.stepping.specs.Stepping.{kindAllowed, stepOn, inHand, numberedIn, proceedIn}
+use Rattle.sheet_in_hand.specs.Stepping.{kindAllowed, stepOn, inHand, numberedIn, proceedIn}
 
 -- ---- single steps of the list
 

@@ -10,7 +10,7 @@ use Rattle.sheets.specs.Steps.{Outcome, filled, refused, allSteps}
 use Rattle.sheets.specs.Fillable.{MeetsDefinition}
 use Rattle.layout.specs.Bytes.{runsOf, zeros, padded}
 use Rattle.layout.specs.Step.{Readable, inOrder}
-use Rattle.stepping.specs.Stepping.{stepOn}
+use Rattle.sheet_in_hand.specs.Stepping.{stepOn}
 
 -- the list reads as an order with its entries in range, and each of its ingredients meets its published definition (questions 2 to 4)
 pub record Passing (list : List ℕ) : Type 0 where
