@@ -1,25 +1,12 @@
 // The construction of a run table from an order, in five kinds of steps: the planner.
 mod fill; // fill.rt: questions 2 to 8
 
-ghost use mathlib.Core.Path.{_≡_};
-ghost use Rattle.promise.specs.Promise.{suffice, Promise};
+ghost use Rattle.promise.specs.Promise.{Promise};
 use buffers::clear;
 use fill::fill;
+use question_1::long_enough;
 use sheets::answer::Answer;
 use sheets::answer::Refusal;
-
-// Question 1: are the buffers long enough?
-fn long_enough(table: usize, levels: usize, scratch: usize) -> bool
-    ensures { λ r. ⌜ r ≡ suffice table levels scratch ⌝ }
-{
-    if table < 65536 {
-        return false;
-    }
-    if levels < 128 {
-        return false;
-    }
-    65536 <= scratch
-}
 
 // Plans an order: writes the run table that the list orders, run by run, and its level counts, or refuses it and leaves zeros. Demands 1, 2 and 3
 // of document 01 are this one promise.

@@ -1,7 +1,7 @@
--- `construction::long_enough` meets its contract: each comparison decides what `&&` gives.
+-- `question_1::long_enough` meets its contract: each comparison decides what `&&` gives.
 use borrow.Author.Tests.{le-leb, lt-leb}
-use Rattle.construction.proofs.long_enough.Statement.{statement}
-use Rattle.construction.proofs.long_enough.Tie as tie
+use Rattle.question_1.proofs.long_enough.Statement.{statement}
+use Rattle.question_1.proofs.long_enough.Tie as tie
 
 returns : tie.Need-returns
 returns c = simp (lt-leb _ _ (c .if1 .taken))
