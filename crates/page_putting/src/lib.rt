@@ -1,15 +1,16 @@
-// A page of a sheet, put into a buffer, and the number of pages (document 02, K3).
+// A page of a sheet, put into a buffer (document 02, K3).
 ghost use mathlib.Core.Path.{_≡_};
 ghost use mathlib.Core.List.{flatMap};
 ghost use Prim.Native.Nat.{_+_, _*_, _≤_, _<_};
 ghost use lib.ListN.{length};
 ghost use Rattle.finite.specs.Lists.{from};
 ghost use Rattle.buffers.specs.Put.{Put};
-ghost use Rattle.page_text.specs.Pages.{parts, pageCount, pageText};
+ghost use Rattle.page_text.specs.Pages.{pageCount, pageText};
 ghost use Rattle.given_sheet.specs.Given.{WellFormed, givenSheet};
 ghost use Rattle.page_putting.specs.Part.{partOf, partLine, PartIn};
 use level_lines::put_count_line;
 use level_lines::put_run_line;
+use page_counts::run_parts;
 use page_lines::put_blank_line;
 use page_lines::put_number_line;
 
@@ -18,22 +19,6 @@ pub struct Part {
     pub run: usize,
     pub column: usize,
     pub end: usize,
-}
-
-// The number of pages of a sheet within the limits.
-pub fn page_count(runs: usize, columns: usize) -> usize
-    requires { ⌜ (runs ≤ 512) × (columns ≤ 128) ⌝ }
-    ensures { λ r. ⌜ r ≡ pageCount runs columns ⌝ }
-{
-    run_parts(runs) * ((columns + 24) / 25)
-}
-
-// How many pages the runs take that 25 columns have.
-fn run_parts(runs: usize) -> usize
-    requires { ⌜ runs ≤ 512 ⌝ }
-    ensures { λ r. ⌜ r ≡ parts 58 runs ⌝ }
-{
-    (runs + 57) / 58
 }
 
 // Puts a page of a sheet into a buffer from a place on, leaves the rest of it, and returns the place after the page.

@@ -7,7 +7,7 @@ ghost use Rattle.page_argument.specs.declared.Asked.the-variants.{One};
 ghost use Rattle.page_report.specs.PageReport.{allPages, sheetPages, pageRoom};
 use lines::put_refusal;
 use page_argument::Asked;
-use page_putting::page_count;
+use page_counts::page_count;
 use page_putting::put_page;
 
 // Puts the pages of a sheet that are asked for at the front of a buffer, or the refusal of a page that there is not.

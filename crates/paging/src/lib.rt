@@ -2,7 +2,7 @@
 ghost use Rattle.page_promise.specs.PagePromise.{PagePromise};
 use buffers::clear;
 use given_sheet::is_well_formed;
-use page_putting::page_count;
+use page_counts::page_count;
 use page_putting::put_page;
 
 // Prints a page of a sheet into a buffer, and zeros after it, and answers 0; or answers 02's number of a refusal, 1 for the sheet, 12 for a buffer

@@ -1,10 +1,10 @@
--- `page_putting::page_count` meets its contract.
+-- `page_counts::page_count` meets its contract.
 use native.Mathlib.Omega.{arith}
 use borrow.Author.Needs.{needs}
 use Rattle.page_text.specs.Pages.{parts, pageCount}
 use Rattle.page_text.proofs.Counts.{pages-most}
-use Rattle.page_putting.proofs.page_count.Statement.{statement}
-use Rattle.page_putting.proofs.page_count.Tie as tie
+use Rattle.page_counts.proofs.page_count.Statement.{statement}
+use Rattle.page_counts.proofs.page_count.Tie as tie
 
 run-parts-requires : tie.Need-run-parts-requires
 run-parts-requires c κs = search needs

@@ -1,9 +1,9 @@
--- `page_putting::run_parts` meets its contract.
+-- `page_counts::run_parts` meets its contract.
 use mathlib.Core.Path.{refl}
 use borrow.Author.Needs.{needs}
 use Rattle.page_text.specs.Pages.{parts}
-use Rattle.page_putting.proofs.run_parts.Statement.{statement}
-use Rattle.page_putting.proofs.run_parts.Tie as tie
+use Rattle.page_counts.proofs.run_parts.Statement.{statement}
+use Rattle.page_counts.proofs.run_parts.Tie as tie
 
 add-result : tie.Need-add-result
 add-result c = search needs
