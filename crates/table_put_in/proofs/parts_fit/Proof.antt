@@ -1,9 +1,9 @@
--- `splitting::parts_fit` meets its contract: the second test is asked only of a column of the sheet.
+-- `table_put_in::parts_fit` meets its contract: the second test is asked only of a column of the sheet.
 use native.Mathlib.Omega.{arith}
 use borrow.Author.Needs.{needs}
 use borrow.Author.Tests.{lt-ltb, le-ltb}
-use Rattle.splitting.proofs.parts_fit.Statement.{statement}
-use Rattle.splitting.proofs.parts_fit.Tie as tie
+use Rattle.table_put_in.proofs.parts_fit.Statement.{statement}
+use Rattle.table_put_in.proofs.parts_fit.Tie as tie
 
 run-count-requires : tie.Need-run-count-requires
 run-count-requires c κs = search needs

@@ -1,12 +1,12 @@
--- `splitting::table_spare` meets its contract: the level counts that are put are the table's.
+-- `table_put_in::table_spare` meets its contract: the level counts that are put are the table's.
 use mathlib.Core.Path.{_∙_, ap₂}
 use borrow.Author.Needs.{needs, sfits-of}
 use mir.Facts.{toZ-ofZ}
 use mir.Syntax.{w64}
 use Rattle.buffers.proofs.Puts.{put-front}
 use Rattle.spare.specs.Spare.{spareOf}
-use Rattle.splitting.proofs.table_spare.Statement.{statement}
-use Rattle.splitting.proofs.table_spare.Tie as tie
+use Rattle.table_put_in.proofs.table_spare.Statement.{statement}
+use Rattle.table_put_in.proofs.table_spare.Tie as tie
 
 slice-aggregate-put-level-counts : tie.Need-slice-aggregate-put-level-counts
 slice-aggregate-put-level-counts c = search needs
