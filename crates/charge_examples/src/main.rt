@@ -13,12 +13,12 @@ use charges::Quote;
 use charging::charge_sheet;
 use input::scan_input;
 use libc::STDOUT_FILENO;
-use stored_calls::StoredSheet;
 use stored_calls::least;
 use stored_calls::long_number_at;
 use stored_calls::number_at;
-use stored_calls::repeat;
-use stored_calls::sheet_at;
+use stored_sheets::StoredSheet;
+use stored_sheets::repeat;
+use stored_sheets::sheet_at;
 use words::Scanned;
 
 fn main() {

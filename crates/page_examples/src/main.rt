@@ -12,11 +12,11 @@ ghost use lib.ListN.{length};
 use input::scan_input;
 use libc::STDOUT_FILENO;
 use paging::print_page;
-use stored_calls::StoredSheet;
 use stored_calls::least;
 use stored_calls::number_at;
-use stored_calls::repeat;
-use stored_calls::sheet_at;
+use stored_sheets::StoredSheet;
+use stored_sheets::repeat;
+use stored_sheets::sheet_at;
 use words::Scanned;
 
 fn main() {

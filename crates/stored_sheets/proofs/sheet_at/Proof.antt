@@ -1,10 +1,10 @@
--- `stored_calls::sheet_at` meets its contract: the product of two numbers of sixteen bits does not overflow.
+-- `stored_sheets::sheet_at` meets its contract: the product of two numbers of sixteen bits does not overflow.
 use native.Mathlib.Nat.{mul-le-mul}
 use native.Mathlib.Omega.{arith}
 use borrow.Author.Needs.{needs}
-use Rattle.stored_calls.specs.StoredSheets.{storedSheet}
-use Rattle.stored_calls.proofs.sheet_at.Statement.{statement}
-use Rattle.stored_calls.proofs.sheet_at.Tie as tie
+use Rattle.stored_sheets.specs.StoredSheets.{storedSheet}
+use Rattle.stored_sheets.proofs.sheet_at.Statement.{statement}
+use Rattle.stored_sheets.proofs.sheet_at.Tie as tie
 
 add-levels : tie.Need-add-levels
 add-levels c = search needs

@@ -7,7 +7,7 @@ use native.Mathlib.Omega.{arith}
 use borrow.Author.Count.{below-more}
 use lib.ListN.{length, getD, set, length-set}
 use lib.Seq.{getD-set-same, getD-set-other}
-use Rattle.stored_calls.specs.Repeated.{repeated}
+use Rattle.stored_sheets.specs.Repeated.{repeated}
 
 -- with no numbers, and with some
 pub repeated-none : (list : List ℕ) (start : ℕ) {count : ℕ} (held : List ℕ) (i : ℕ) → count ≡ 0 → getD held i 0 ≡ repeated list start count held i

@@ -3,7 +3,7 @@
 use mathlib.Core.List.{List}
 use Prim.Native.Nat.{ℕ, _+_, _*_, min}
 use lib.ListN.{getD}
-use Rattle.stored_calls.specs.declared.StoredSheet.{StoredSheet}
+use Rattle.stored_sheets.specs.declared.StoredSheet.{StoredSheet}
 
 -- the sheet whose numbers stand in the list from a place on
 unfoldable pub storedSheet : List ℕ → ℕ → StoredSheet

@@ -1,12 +1,12 @@
--- `stored_calls::repeat` meets its contract. The invariant: the bytes before i are filled.
+-- `stored_sheets::repeat` meets its contract. The invariant: the bytes before i are filled.
 use Prim.Native.Nat.{_-_}
 use native.Mathlib.Nat.{mod-lt}
 use native.Mathlib.Omega.{arith}
 use borrow.Author.Needs.{needs}
 use lib.ListN.{length}
-use Rattle.stored_calls.proofs.Repeating.{repeated-none, Repeating, repeating-none, repeating-more}
-use Rattle.stored_calls.proofs.repeat.Statement.{statement}
-use Rattle.stored_calls.proofs.repeat.Tie as tie
+use Rattle.stored_sheets.proofs.Repeating.{repeated-none, Repeating, repeating-none, repeating-more}
+use Rattle.stored_sheets.proofs.repeat.Statement.{statement}
+use Rattle.stored_sheets.proofs.repeat.Tie as tie
 
 abbrev Inv-loop : tie.InvT-loop
 Inv-loop list start count bytes₀ i₀ bytes i = Repeating list start count bytes₀ bytes i
