@@ -1,13 +1,12 @@
 // Reads the ingredients of an order: each up to its entries, which are passed over at once.
-mod generator_numbers; // generator_numbers.rt: the size of a generator's field, and the widths of its factors
-
 ghost use mathlib.Core.Path.{_≡_};
 ghost use Prim.Native.Nat.{_+_, _≤_};
 ghost use Rattle.order.specs.Reader.{repeated};
 ghost use Rattle.order.specs.Grammar.{counted, tableBody, matrixBody, generatorBody, body, mostRows, readIngredient};
 ghost use Rattle.order.specs.Answers.{spotOf, walkOf};
-use generator_numbers::field_size;
-use generator_numbers::widths;
+use ingredient_numbers::field_size;
+use ingredient_numbers::most_rows;
+use ingredient_numbers::widths;
 use list_numbers::number;
 use list_series::series;
 use list_series::skip;
@@ -89,13 +88,6 @@ fn generator_body(list: &[u16], from: Cursor, t: usize, n: usize) -> Spot
         },
         Number::Refused { place } => Spot::Refused { place },
     }
-}
-
-// The limit on rows.
-fn most_rows(kind: usize) -> usize
-    ensures { λ r. ⌜ r ≡ mostRows kind ⌝ }
-{
-    if kind == 3 { 9 } else { 512 }
 }
 
 // An ingredient from the number after its rows and columns on.

@@ -1,4 +1,4 @@
--- `list_ingredients::generator_numbers::widths` meets its contract. The invariant: reading what is left from the cursor on, with the sum so far added, gives the
+-- `ingredient_numbers::widths` meets its contract. The invariant: reading what is left from the cursor on, with the sum so far added, gives the
 -- answer of the whole; and each width is at most 6, so the sum stays small.
 use mathlib.Core.Path.{_≡_, sym, _∙_}
 use Prim.Native.Nat.{_+_, _*_, _≤_}
@@ -13,8 +13,8 @@ use Rattle.order.proofs.Tests.{factorWidth-iff}
 use Rattle.order.proofs.Powers.{width-small}
 use Rattle.order.proofs.Law.{number-law}
 use Rattle.order.proofs.Answers.{number-value, number-refused, plus, plus-zero, sum-on, sum-refused, sum-done}
-use Rattle.list_ingredients.proofs.generator_numbers.widths.Statement.{statement}
-use Rattle.list_ingredients.proofs.generator_numbers.widths.Tie as tie
+use Rattle.ingredient_numbers.proofs.widths.Statement.{statement}
+use Rattle.ingredient_numbers.proofs.widths.Tie as tie
 
 abbrev Inv-loop : tie.InvT-loop
 Inv-loop list n s c₀ left₀ sum₀ c left sum =

@@ -1,9 +1,9 @@
--- `list_ingredients::generator_numbers::is_width` meets its contract: each way out has the parts of the test decided; no u over 6 has s^u at most 64.
+-- `ingredient_numbers::is_width` meets its contract: each way out has the parts of the test decided; no u over 6 has s^u at most 64.
 use borrow.Author.Tests.{le-leb, lt-leb}
 use Rattle.order.proofs.Powers.{small-power, large-power}
 use native.Mathlib.Omega.{arith}
-use Rattle.list_ingredients.proofs.generator_numbers.is_width.Statement.{statement}
-use Rattle.list_ingredients.proofs.generator_numbers.is_width.Tie as tie
+use Rattle.ingredient_numbers.proofs.is_width.Statement.{statement}
+use Rattle.ingredient_numbers.proofs.is_width.Tie as tie
 
 returns : tie.Need-returns
 returns c = simp (lt-leb _ _ (c .if1 .taken))

@@ -1,9 +1,9 @@
--- `list_ingredients::generator_numbers::is_field_size` meets its contract: each way out has the parts of the test decided.
+-- `ingredient_numbers::is_field_size` meets its contract: each way out has the parts of the test decided.
 use borrow.Author.Tests.{le-leb, lt-leb, eq-eqb, ne-eqb}
 use native.Mathlib.Omega.{arith}
 use Rattle.order.proofs.Powers.{small-power}
-use Rattle.list_ingredients.proofs.generator_numbers.is_field_size.Statement.{statement}
-use Rattle.list_ingredients.proofs.generator_numbers.is_field_size.Tie as tie
+use Rattle.ingredient_numbers.proofs.is_field_size.Statement.{statement}
+use Rattle.ingredient_numbers.proofs.is_field_size.Tie as tie
 
 returns : tie.Need-returns
 returns c = simp (lt-leb _ _ (c .if1 .taken))

@@ -1,7 +1,7 @@
--- `list_ingredients::most_rows` meets its contract: the test of the kind decides.
+-- `ingredient_numbers::most_rows` meets its contract: the test of the kind decides.
 use borrow.Author.Tests.{eq-eqb, ne-eqb}
-use Rattle.list_ingredients.proofs.most_rows.Statement.{statement}
-use Rattle.list_ingredients.proofs.most_rows.Tie as tie
+use Rattle.ingredient_numbers.proofs.most_rows.Statement.{statement}
+use Rattle.ingredient_numbers.proofs.most_rows.Tie as tie
 
 returns : tie.Need-returns
 returns c = simp (eq-eqb _ _ (c .if1 .taken))

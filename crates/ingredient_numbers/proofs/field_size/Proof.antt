@@ -1,10 +1,10 @@
--- `list_ingredients::generator_numbers::field_size` meets its contract, by the law that joins the number, its test and what is accepted.
+-- `ingredient_numbers::field_size` meets its contract, by the law that joins the number, its test and what is accepted.
 use denote.Ref.{now}
 use Rattle.order.specs.Grammar.{generatorField}
 use Rattle.order.proofs.Answers.{accepted}
 use borrow.Author.Needs.{needs}
-use Rattle.list_ingredients.proofs.generator_numbers.field_size.Statement.{statement}
-use Rattle.list_ingredients.proofs.generator_numbers.field_size.Tie as tie
+use Rattle.ingredient_numbers.proofs.field_size.Statement.{statement}
+use Rattle.ingredient_numbers.proofs.field_size.Tie as tie
 
 peek-requires : tie.Need-peek-requires
 peek-requires c κs = search needs

@@ -1,14 +1,21 @@
-// The numbers that only a generator has: the size of its field, and the widths of its factors.
+// Numbers of an ingredient: the limit on its rows, and those that only a generator has, the size of its field and the widths of its factors.
 ghost use mathlib.Core.Path.{_≡_};
 ghost use Prim.Native.Nat.{_≤_};
 ghost use Rattle.order.specs.Reader.{allowed, repeated};
-ghost use Rattle.order.specs.Grammar.{generatorField, factorWidth};
+ghost use Rattle.order.specs.Grammar.{mostRows, generatorField, factorWidth};
 ghost use Rattle.order.specs.Answers.{numberOf, totalOf};
 use finite::power;
 use list_numbers::accept;
 use list_numbers::peek;
 use order::Cursor;
 use order::Number;
+
+// The limit on rows.
+pub fn most_rows(kind: usize) -> usize
+    ensures { λ r. ⌜ r ≡ mostRows kind ⌝ }
+{
+    if kind == 3 { 9 } else { 512 }
+}
 
 // Whether s is the size of a field, with s^t at most 512.
 fn is_field_size(t: usize, s: usize) -> bool
@@ -28,7 +35,7 @@ fn is_field_size(t: usize, s: usize) -> bool
 }
 
 // The size of a field for a generator of t rows.
-pub(crate) fn field_size(list: &[u16], c: Cursor, t: usize) -> Number
+pub fn field_size(list: &[u16], c: Cursor, t: usize) -> Number
     requires { ⌜ t ≤ 9 ⌝ }
     ensures { λ r. ⌜ r ≡ numberOf (allowed (generatorField t) (now (list .entry)) (c .at)) ⌝ }
 {
@@ -58,7 +65,7 @@ fn factor_width(list: &[u16], c: Cursor, s: usize) -> Number
 }
 
 // The widths of n factors over a field of s elements, and their sum.
-pub(crate) fn widths(list: &[u16], start: Cursor, n: usize, s: usize) -> Number
+pub fn widths(list: &[u16], start: Cursor, n: usize, s: usize) -> Number
     requires { ⌜ ((2 ≤ s) × (s ≤ 9)) × (n ≤ 128) ⌝ }
     ensures { λ r. ⌜ r ≡ totalOf (repeated n (allowed (factorWidth s)) (now (list .entry)) (start .at)) ⌝ }
 {
