@@ -12,6 +12,7 @@ use Rattle.counting.specs.Matrix.{matrixOf, MatrixInRange}
 pub record CheckableTable (cells levels : List ℕ) (runs : ℕ) : Type 0 where
   pub whole : runs * length levels ≤ length cells
   pub few : runs ≤ 512
+  pub narrow : length levels ≤ 128
   pub levels-from : (c : ℕ) → c < length levels → 2 ≤ getD levels c 0
   pub levels-to : (c : ℕ) → c < length levels → getD levels c 0 ≤ 64
   pub in-range : InRange (tableOf cells levels runs)
@@ -20,6 +21,7 @@ pub record CheckableTable (cells levels : List ℕ) (runs : ℕ) : Type 0 where
 pub record CheckableMatrix (entries : List ℕ) (rows columns p : ℕ) : Type 0 where
   pub whole : rows * columns ≤ length entries
   pub few : rows ≤ 512
+  pub narrow : columns ≤ 128
   pub modulus-from : 2 ≤ p
   pub modulus-to : p ≤ 64
   pub in-range : MatrixInRange (matrixOf entries rows columns p)

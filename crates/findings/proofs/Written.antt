@@ -51,6 +51,7 @@ module _ (text levels : List ℕ) (runs : ℕ) where
       leb (length text) 1024
       ∷ leb (runs * length levels) (length (digitValues text))
       ∷ leb runs 512
+      ∷ leb (length levels) 128
       ∷ each (λ c s. leb 2 s) 0 levels
       ∷ each (λ c s. leb s 64) 0 levels
       ∷ below levelsAt (digitValues text)
@@ -59,12 +60,13 @@ module _ (text levels : List ℕ) (runs : ℕ) where
   pub written-table : T (all tableTests) → WrittenTable text levels runs
   unfolding InRange tableOf
   written-table t =
-      let (short, (whole, (few, (from, (to, (inside, _)))))) = passed tableTests t in
+      let (short, (whole, (few, (narrow, (from, (to, (inside, _))))))) = passed tableTests t in
       record {
         short = leb→le _ _ short;
         checkable = record {
           whole = leb→le _ _ whole;
           few = leb→le _ _ few;
+          narrow = leb→le _ _ narrow;
           levels-from = λ c h. leb→le _ _ (each-at (λ c s. leb 2 s) levels from c h);
           levels-to = λ c h. leb→le _ _ (each-at (λ c s. leb s 64) levels to c h);
           in-range = λ r c hr hc.
@@ -78,6 +80,7 @@ module _ (text : List ℕ) (rows columns p : ℕ) where
       leb (length text) 1024
       ∷ leb (rows * columns) (length (digitValues text))
       ∷ leb rows 512
+      ∷ leb columns 128
       ∷ leb 2 p
       ∷ leb p 64
       ∷ below (λ k. p) (digitValues text)
@@ -86,12 +89,13 @@ module _ (text : List ℕ) (rows columns p : ℕ) where
   pub written-matrix : T (all matrixTests) → WrittenMatrix text rows columns p
   unfolding MatrixInRange matrixOf
   written-matrix t =
-      let (short, (whole, (few, (from, (to, (inside, _)))))) = passed matrixTests t in
+      let (short, (whole, (few, (narrow, (from, (to, (inside, _))))))) = passed matrixTests t in
       record {
         short = leb→le _ _ short;
         checkable = record {
           whole = leb→le _ _ whole;
           few = leb→le _ _ few;
+          narrow = leb→le _ _ narrow;
           modulus-from = leb→le _ _ from;
           modulus-to = leb→le _ _ to;
           in-range = λ r c hr hc.

@@ -7,4 +7,5 @@ pub mod Lists
 pub mod Digits
 pub mod Fits
 pub mod Tabulated
+pub mod Ordinals
 pub mod PairOrder

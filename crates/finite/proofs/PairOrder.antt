@@ -1,19 +1,20 @@
--- A search that goes through the pairs in their order finds what `firstPair` says, and ends.
+-- A search that goes through the pairs in their order finds what `firstPair` says, knows the place of each pair, and ends.
 -- Assumes nothing.
-use mathlib.Core.Path.{_≡_}
+use mathlib.Core.Path.{_≡_, refl, sym, _∙_, ap}
 use mathlib.Core.Logic.{by-cases, ⊎-elim}
 use mathlib.Core.Option.{Option, none, some}
-use Prim.Native.Nat.{ℕ, _+_, _-_, _*_, _≤_, _<_}
+use Prim.Native.Nat.{ℕ, _+_, _-_, _*_, _/_, _≤_, _<_}
 use native.Mathlib.Decide.{decLt}
-use native.Mathlib.Nat.{lt-trans, eq-or-lt-of-le}
+use native.Mathlib.Nat.{le-trans, lt-trans, eq-or-lt-of-le}
 use native.Mathlib.Omega.{arith}
 use borrow.Author.Tests.{lt-ltb, le-ltb}
 use lib.Arith.{digits-lt}
 use Rattle.finite.specs.First.{firstPair}
-use Rattle.finite.specs.Pairs.{startPair, nextPair}
+use Rattle.finite.specs.Pairs.{startPair, nextPair, ordinal}
 use Rattle.finite.specs.declared.pairs.IndexPair.{IndexPair}
 use Rattle.finite.proofs.Firsts.{first-at, after-at, after-none, pair-none, between-more}
 use Rattle.finite.proofs.Fits.{run-more}
+use Rattle.finite.proofs.Ordinals.{few-pairs, ordinal-most, ordinal-past, ordinals}
 
 -- what is left of a search through the pairs of n falls with each pair
 abbrev pub left : ℕ → IndexPair → ℕ
@@ -28,10 +29,11 @@ left-falls n p o h =
     (λ l. rw (le-ltb (p .second + 1) n (omega arith), run-more (p .first) n) (omega (arith, below)))
 
 module _ {A : Type 0} (f : ℕ → ℕ → Option A) (n : ℕ) where
-  -- every pair before p has nothing, and p is the last only where no pair is left
+  -- every pair before p has nothing, p has its place in the order, and p is past the last only where no pair is left
   pub record Searched (p : IndexPair) : Type 0 where
     pub ordered : p .first < p .second
-    pub last : n ≤ p .second → n ≤ p .first + 1
+    pub placed : p .ordinal ≡ ordinal n (p .first) (p .second)
+    pub last : n ≤ p .second → p .second ≡ p .first + 1
     pub earlier : (c d : ℕ) → c < p .first → c < d → d < n → f c d ≡ none
     pub nearer : (d : ℕ) → p .first < d → d < p .second → f (p .first) d ≡ none
 
@@ -39,7 +41,8 @@ module _ {A : Type 0} (f : ℕ → ℕ → Option A) (n : ℕ) where
   searched-start =
       record {
         ordered = omega arith;
-        last = λ h. omega arith;
+        placed = sym (ordinals n .starts);
+        last = λ h. refl;
         earlier = λ c d h g k. absurd (omega arith);
         nearer = λ d g h. absurd (omega arith);
       }
@@ -53,10 +56,12 @@ module _ {A : Type 0} (f : ℕ → ℕ → Option A) (n : ℕ) where
   pub searched-next : (p : IndexPair) → Searched p → p .second < n → f (p .first) (p .second) ≡ none → Searched (nextPair n p)
   unfolding nextPair
   searched-next p s h e =
+      let up = ordinals n .goes-up p (s .ordered) h in
       by-cases (decLt (p .second + 1) n)
       (λ l. rw (lt-ltb (p .second + 1) n l)
       (record {
         ordered = omega (arith, s .ordered);
+        placed = ap (λ k. k + 1) (s .placed) ∙ sym (rw (lt-ltb (p .second + 1) n l) at up);
         last = λ g. absurd (omega arith);
         earlier = s .earlier;
         nearer = between-more _ (p .first) (p .second) (s .nearer) e;
@@ -64,7 +69,8 @@ module _ {A : Type 0} (f : ℕ → ℕ → Option A) (n : ℕ) where
       (λ l. rw (le-ltb (p .second + 1) n (omega arith))
       (record {
         ordered = omega arith;
-        last = λ g. omega (arith, s .ordered);
+        placed = ap (λ k. k + 1) (s .placed) ∙ sym (rw (le-ltb (p .second + 1) n (omega arith)) at up);
+        last = λ g. omega arith;
         earlier = λ c d k g m. ⊎-elim (λ (q : c ≡ p .first). rw q (row-none p s e (omega arith) d (omega arith) m)) (λ (q : c < p .first). s .earlier c d q g m) (eq-or-lt-of-le (omega arith));
         nearer = λ d g k. absurd (omega arith);
       }))
@@ -78,3 +84,11 @@ module _ {A : Type 0} (f : ℕ → ℕ → Option A) (n : ℕ) where
       first-at _ n (p .first) a (lt-trans (s .ordered) h)
       (λ c l. after-none c n (f c) (λ d g k. s .earlier c d l g k))
       (after-at (p .first) n (f (p .first)) (p .second) a (s .ordered) h (s .nearer) e)
+
+  -- of 128 numbers no pair has a place past 8,128
+  pub searched-few : (p : IndexPair) → Searched p → p .second < n → n ≤ 128 → p .ordinal ≤ 8128
+  searched-few p s h few = rw (s .placed) (le-trans (ordinal-most n (p .first) (p .second) (s .ordered) h) (few-pairs few))
+
+  -- past the last pair all are counted
+  pub searched-all : (p : IndexPair) → Searched p → n ≤ p .second → p .ordinal ≡ n * (n - 1) / 2 + 1
+  searched-all p s h = s .placed ∙ ordinal-past n (p .first) (p .second) h (s .last h)

@@ -3,7 +3,7 @@
 use mathlib.Core.Path.{sym, _∙_, ap}
 use mathlib.Core.List.{List}
 use Prim.Native.Nat.{ℕ, _+_, _*_, _≤_, _<_}
-use native.Mathlib.Nat.{le-of-eq}
+use native.Mathlib.Nat.{le-of-eq, le-trans}
 use native.Mathlib.Omega.{arith}
 use lib.ListN.{length, getD, take, drop}
 use Rattle.counting.specs.Checkable.{CheckableTable, CheckableMatrix, CheckableGenerator}
@@ -35,6 +35,7 @@ module _ {list : List ℕ} {rows columns levelsAt entriesAt : ℕ} (s : TableSta
       record {
         whole = le-of-eq (ap (λ k. rows * k) many ∙ sym (part-length list entriesAt (rows * columns) (s .entries-within)));
         few = s .rows-limits .1;
+        narrow = le-trans (le-of-eq many) (s .columns-limits .1);
         levels-from = λ c h. own-limits s .level-limits c h .0;
         levels-to = λ c h. own-limits s .level-limits c h .1;
         in-range = own-limits s .in-range;
@@ -50,6 +51,7 @@ module _ {list : List ℕ} {rows columns p entriesAt : ℕ} (s : MatrixStands li
       record {
         whole = le-of-eq (sym (part-length list entriesAt (rows * columns) (s .entries-within)));
         few = s .rows-limits .1;
+        narrow = s .columns-limits .1;
         modulus-from = s .modulus-limits .0;
         modulus-to = s .modulus-limits .1;
         in-range = matrix-in-range s;

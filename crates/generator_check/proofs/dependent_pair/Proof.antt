@@ -3,7 +3,7 @@
 use mathlib.Core.Path.{sym, _∙_, ap}
 use native.Mathlib.Nat.{lt-trans}
 use lib.ListN.{length}
-use Rattle.finite.proofs.PairOrder.{Searched, searched-start, searched-next, searched-none, searched-at, left, left-falls}
+use Rattle.finite.proofs.PairOrder.{Searched, searched-start, searched-next, searched-none, searched-at, searched-few, left, left-falls}
 use Rattle.galois.specs.Arithmetic.{fieldSum, fieldProduct}
 use Rattle.counting.specs.Generator.{generatorOf}
 use Rattle.counting.specs.GeneratorVerdict.{pairDependence, generatorFinding}
@@ -58,7 +58,11 @@ enum-told : tie.Need-enum-told Inv-loop μ-loop
 enum-told c = search needs
 
 next-requires : tie.Need-next-requires Inv-loop μ-loop
-next-requires c κs = (c .before .before .before .before .before .before .before .loop .inv .ordered, c .before .before .before .before .before .if1 .taken)
+next-requires c κs =
+    let l = c .before .before .before .before .before .before .before .loop in
+    let taken = c .before .before .before .before .before .if1 .taken in
+    let few = c .before .before .before .before .before .before .before .before .before .before .before .pre .0 .few in
+    (l .inv .ordered, taken, searched-few _ _ (l .pair) (l .inv) taken few)
 
 loop-less : tie.Need-loop-less Inv-loop μ-loop
 loop-less c = rw (c .next .ensures) (left-falls _ _ (c .before .before .before .before .before .before .before .before .loop .inv .ordered) (c .before .before .before .before .before .before .if1 .taken))

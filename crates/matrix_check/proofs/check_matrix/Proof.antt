@@ -5,7 +5,7 @@ use Prim.Native.Nat.{_*_}
 use native.Mathlib.Nat.{le-trans, lt-trans}
 use lib.Dec.{lit≤}
 use borrow.Author.Needs.{needs}
-use Rattle.finite.proofs.PairOrder.{Searched, searched-start, searched-next, searched-none, searched-at, left, left-falls}
+use Rattle.finite.proofs.PairOrder.{Searched, searched-start, searched-next, searched-none, searched-at, searched-few, left, left-falls}
 use Rattle.counting.specs.Matrix.{matrixOf}
 use Rattle.counting.specs.Verdict.{differenceFault, matrixFinding, matrixVerdict}
 use Rattle.tally.specs.Tally.{Cleared}
@@ -65,7 +65,11 @@ enum-told : tie.Need-enum-told Inv-loop μ-loop
 enum-told c = search needs
 
 next-requires : tie.Need-next-requires Inv-loop μ-loop
-next-requires c κs = (c .before .before .before .before .before .before .before .before .loop .inv .2 .ordered, c .before .before .before .before .before .before .if1 .taken)
+next-requires c κs =
+    let l = c .before .before .before .before .before .before .before .before .loop in
+    let taken = c .before .before .before .before .before .before .if1 .taken in
+    let narrow = c .before .before .before .before .before .before .before .before .before .before .before .before .pre .narrow in
+    (l .inv .2 .ordered, taken, searched-few _ _ (l .pair) (l .inv .2) taken narrow)
 
 loop-less : tie.Need-loop-less Inv-loop μ-loop
 loop-less c = rw (c .next .ensures) (left-falls _ _ (c .before .before .before .before .before .before .before .before .before .loop .inv .2 .ordered) (c .before .before .before .before .before .before .before .if1 .taken))

@@ -6,17 +6,20 @@ use Rattle.finite.specs.Pairs.{nextPair}
 use Rattle.finite.proofs.pairs.IndexPair.next.Statement.{statement}
 use Rattle.finite.proofs.pairs.IndexPair.next.Tie as tie
 
+add-ordinal : tie.Need-add-ordinal
+add-ordinal c = search needs
+
 add-if1 : tie.Need-add-if1
 add-if1 c = search needs
-
-add-t8 : tie.Need-add-t8
-add-t8 c = search needs
 
 add-t9 : tie.Need-add-t9
 add-t9 c = search needs
 
 add-t10 : tie.Need-add-t10
 add-t10 c = search needs
+
+add-t11 : tie.Need-add-t11
+add-t11 c = search needs
 
 returns : tie.Need-returns
 unfolding nextPair
@@ -27,4 +30,4 @@ unfolding nextPair
 returns-2 c = rw (le-ltb _ _ (c .if1 .left))
 
 pub next-spec : {M : Type 1} → statement M
-next-spec = tie.close (tie.spec add-if1 add-t8 add-t9 add-t10 returns returns-2)
+next-spec = tie.close (tie.spec add-ordinal add-if1 add-t9 add-t10 add-t11 returns returns-2)
