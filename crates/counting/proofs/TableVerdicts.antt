@@ -5,21 +5,24 @@ use mathlib.Core.Logic.{_↔_, _≢_, _⊎_, inl, inr, by-cases, ⊎-elim}
 use mathlib.Core.Bool.{and-true, and-comm}
 use mathlib.Core.List.{List, [], _∷_}
 use mathlib.Core.Option.{Option, none, some, Option·map, Option·some-ne-none, map-eq-none-iff, map-eq-some-iff}
-use Prim.Native.Nat.{ℕ, _+_, _*_, _/_, _%_, _≤_, _<_, zero-le}
-use native.Mathlib.Nat.{mul-zero, mul-one, one-mul, mul-comm, add-sub-cancel, lt-trans, lt-of-le-of-lt, lt-of-lt-of-le, ne-of-lt, not-suc-le-zero, eq-zero-or-pos, mod-lt, div-lt-iff-lt-mul, div-mul-le-self, div-add-mod'}
+use Prim.Native.Nat.{ℕ, _+_, _-_, _*_, _/_, _%_, _≤_, _<_, zero-le}
+use native.Mathlib.Nat.{mul-zero, mul-one, one-mul, mul-comm, add-sub-cancel, le-refl, le-trans, lt-trans, lt-of-le-of-lt, lt-of-lt-of-le, ne-of-lt, not-suc-le-zero, eq-zero-or-pos, mod-lt, div-lt-iff-lt-mul, div-mul-le-self, div-add-mod'}
 use native.Mathlib.Omega.{arith}
 use native.Mathlib.Decide.{decLt}
 use lib.Arith.{lt-of-le-ne, digits-lt, digits-div, digits-mod}
 use lib.Dec.{eqb, lit≤}
-use lib.IntN.{pos, natAbs}
+use lib.IntN.{ℤ, pos, natAbs}
 use Rattle.finite.specs.First.{_orElse_}
+use Rattle.finite.specs.Pairs.{ordinal}
 use Rattle.finite.proofs.Counts.{count-ext, count-all}
 use Rattle.finite.proofs.Firsts.{first-none, none-below, found-least, pair-none, none-pair, found-pair}
+use Rattle.finite.proofs.Ordinals.{few-pairs, ordinal-most}
 use Rattle.counting.specs.Table.{Table, Setting, columns, levelsOf, shows, times, combinations, Apart, Settings, Even}
-use Rattle.counting.specs.Verdict.{Counted, gap, columnDeviation, columnFault, columnsFault, pairAt, pairDeviation, farthestPair, namedPair, pairFault, pairsFault, tableFinding, faultGap, verdictOf, tableVerdict}
+use Rattle.counting.specs.Verdict.{Counted, gap, columnDeviation, columnFault, columnsFault, pairAt, pairDeviation, farthestPair, namedPair, pairFault, pairsFault, tableFinding, faultGap, pairsCounted, verdictOf, tableVerdict}
 use Rattle.counting.specs.Failures.{EvenLevel, EvenPair, pairGap, EvenColumn, EvenColumns, FirstFault, level, pair}
 use Rattle.counting.specs.declared.verdict.TableFault.{TableFault}
 use Rattle.counting.specs.declared.verdict.TableFault.the-variants.{Column}
+use Rattle.counting.specs.declared.verdict.TableFinding.{TableFinding}
 use Rattle.counting.specs.declared.verdict.TableFinding.the-variants.{Passes, Fails}
 use Rattle.counting.specs.declared.verdict.TableVerdict.{TableVerdict}
 use Rattle.counting.proofs.Deviations.{deviation-none, none-even, passes-none, fails-some, some-lowest, some-farthest}
@@ -161,6 +164,10 @@ pub named-gap : (T : Table) (c d v : ℕ)
     → faultGap T (some (namedPair T c d v)) ≡ gap (levelsOf T c * levelsOf T d) (T .runs) (times T (pairAt T c d v))
 named-gap T c d v = rw (add-sub-cancel c 1, add-sub-cancel d 1)
 
+-- and so is their place
+pub named-place : (T : Table) (c d v : ℕ) → pairsCounted (columns T) (Fails (namedPair T c d v)) ≡ ordinal (columns T) c d
+named-place T c d v = rw (add-sub-cancel c 1, add-sub-cancel d 1)
+
 farthest-pair : (T : Table) (c d : ℕ) (x : Counted) → c < d → d < columns T
     → ((b : ℕ) → b < columns T → EvenColumn T b)
     → ((a b : ℕ) → a < c → a < b → b < columns T → EvenColumns T a b)
@@ -203,16 +210,18 @@ first-pair-fault T fault n e =
     (m .1))
 
 -- ---- the verdict
-level-gap : (T : Table) (fault : TableFault) → columnsFault T ≡ some fault → pos 0 ≡ faultGap T (some fault)
+level-verdict : (T : Table) (fault : TableFault) → columnsFault T ≡ some fault
+    → record { finding = Fails fault; gap = pos 0; pairs = 0 } ≡ verdictOf T (some fault)
 unfolding columnsFault
-level-gap T fault e =
+level-verdict T fault e =
     let l = found-least _ _ fault e in
     let m = map-eq-some-iff (λ (x : Counted). Column (l .place + 1) (x .value) (x .times)) (columnDeviation T (l .place)) .0 (l .there) in
-    subst (λ f. pos 0 ≡ faultGap T (some f)) (m .2) refl
+    subst (λ f. record { finding = Fails f; gap = pos 0; pairs = 0 } ≡ verdictOf T (some f)) (m .2) refl
 
-pub verdict-column : (T : Table) (fault : TableFault) → columnsFault T ≡ some fault → record { finding = Fails fault; gap = pos 0 } ≡ tableVerdict T
+pub verdict-column : (T : Table) (fault : TableFault) → columnsFault T ≡ some fault
+    → record { finding = Fails fault; gap = pos 0; pairs = 0 } ≡ tableVerdict T
 unfolding tableVerdict
-verdict-column T fault e = rw (e, level-gap T fault e)
+verdict-column T fault e = rw e (level-verdict T fault e)
 
 pub verdict-pairs : (T : Table) → columnsFault T ≡ none → verdictOf T (pairsFault T) ≡ tableVerdict T
 unfolding tableVerdict
@@ -261,3 +270,20 @@ table-fails T fault e =
     let found = fails-some _ fault (sym (verdict-finding T ∙ e)) in
     subst (FirstFault T fault) (ap (faultGap T) (sym found) ∙ verdict-gap T)
     (⊎-elim (first-level-fault T fault) (λ p. first-pair-fault T fault (p .0) (p .1)) (orElse-some _ _ fault found))
+
+-- How many pairs of columns were counted goes with what is found (02, K8).
+pub verdict-counted : (T : Table) → tableVerdict T .pairs ≡ pairsCounted (columns T) (tableVerdict T .finding)
+unfolding tableVerdict
+verdict-counted T = refl
+
+fault-within : (T : Table) (fault : TableFault) (g : ℤ) → FirstFault T fault g → pairsCounted (columns T) (Fails fault) ≤ columns T * (columns T - 1) / 2
+fault-within T _ _ (level c x n f) = zero-le
+fault-within T _ _ (pair c d x y n f) = rw (add-sub-cancel c 1, add-sub-cancel d 1) (ordinal-most (columns T) c d (f .ordered) (f .second-in))
+
+finding-within : (T : Table) (found : TableFinding) → tableVerdict T .finding ≡ found → pairsCounted (columns T) found ≤ columns T * (columns T - 1) / 2
+finding-within T Passes e = le-refl _
+finding-within T (Fails fault) e = fault-within T fault (tableVerdict T .gap) (table-fails T fault e)
+
+-- Of up to 128 columns they are never more than 8,128 (02, K8).
+pub counted-most : (T : Table) → columns T ≤ 128 → tableVerdict T .pairs ≤ 8128
+counted-most T few = rw (verdict-counted T) (le-trans (finding-within T (tableVerdict T .finding) refl) (few-pairs few))

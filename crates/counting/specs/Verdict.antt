@@ -1,4 +1,4 @@
--- The verdicts on a table and on a difference matrix, with the first failure: document 01, question 4; document 02, K5.
+-- The verdicts on a table and on a difference matrix, with the first failure: document 01, question 4; document 02, K5 and K8.
 use mathlib.Core.Bool.{cond}
 use mathlib.Core.List.{List, [], _∷_}
 use mathlib.Core.Option.{Option, none, some, Option·map}
@@ -7,6 +7,7 @@ use lib.Dec.{eqb}
 use lib.IntN.{ℤ, pos, natAbs, _-ℤ_}
 use Rattle.finite.specs.First.{first, firstPair, _orElse_}
 use Rattle.finite.specs.Greatest.{greatest}
+use Rattle.finite.specs.Pairs.{ordinal}
 use Rattle.counting.specs.Table.{Table, columns, levelsOf, Setting, times}
 use Rattle.counting.specs.Matrix.{Matrix, differences}
 use Rattle.counting.specs.declared.verdict.DifferenceFault.{DifferenceFault}
@@ -84,9 +85,17 @@ faultGap T none = pos 0
 faultGap T (some (Column c x n)) = pos 0
 faultGap T (some (Pair c d x y n)) = gap (levelsOf T (c - 1) * levelsOf T (d - 1)) (T .runs) n
 
+-- how many pairs of m columns are counted up to what is found: all of them for a table that passes, none where a column is uneven, and up to two columns that
+-- are as many as their place in the order says (02, K8)
+abbrev pub pairsCounted : ℕ → TableFinding → ℕ
+pairsCounted m Passes = m * (m - 1) / 2
+pairsCounted m (Fails (Column c x n)) = 0
+pairsCounted m (Fails (Pair c d x y n)) = ordinal m (c - 1) (d - 1)
+
 -- the verdict that a fault, or none, comes to
 abbrev pub verdictOf : Table → Option TableFault → TableVerdict
-verdictOf T fault = record { finding = tableFinding fault; gap = faultGap T fault }
+verdictOf T fault =
+    record { finding = tableFinding fault; gap = faultGap T fault; pairs = pairsCounted (columns T) (tableFinding fault) }
 
 -- the verdict that names the farthest pair of columns c and d
 abbrev pub farthestVerdict : Table → ℕ → ℕ → TableVerdict

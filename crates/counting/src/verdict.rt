@@ -22,10 +22,12 @@ pub enum TableFinding {
 }
 
 // What was found, and by how much the pair of levels that it names is off (02, K5): s x t x times less the number of runs, which is below zero where the
-// pair is short and above where it is over. Where no pair is named the gap is 0.
+// pair is short and above where it is over. Where no pair is named the gap is 0. And how many pairs of columns were counted (02, K8): all for a table that
+// passes, up to the two that are named, or none where a column is.
 pub struct TableVerdict {
     pub finding: TableFinding,
     pub gap: i64,
+    pub pairs: usize,
 }
 
 // What is wrong with a difference matrix: a difference of two columns, first minus second.

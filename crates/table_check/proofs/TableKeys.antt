@@ -12,6 +12,7 @@ use lib.IntN.{ℤ}
 use lib.ListN.{length, getD}
 use Rattle.finite.proofs.Tests.{eqb-and-agree}
 use Rattle.finite.specs.Sum.{count}
+use Rattle.finite.specs.Pairs.{ordinal}
 use Rattle.finite.proofs.Counts.{count-ext}
 use Rattle.counting.specs.Table.{Table, tableOf, InRange, shows, times}
 use Rattle.counting.specs.Checkable.{CheckableTable}
@@ -20,7 +21,7 @@ use Rattle.counting.specs.declared.verdict.TableFault.{TableFault}
 use Rattle.counting.specs.declared.verdict.TableFault.the-variants.{Pair}
 use Rattle.counting.specs.declared.verdict.TableFinding.the-variants.{Fails}
 use Rattle.counting.proofs.Deviations.{deviation-ext}
-use Rattle.counting.proofs.TableVerdicts.{named-gap}
+use Rattle.counting.proofs.TableVerdicts.{named-gap, named-place}
 use Rattle.tally.specs.Tally.{keysDeviation}
 use Rattle.gaps.specs.Gaps.{discrepancy, farthestOff}
 use Rattle.gaps.specs.declared.Discrepancy.{Discrepancy}
@@ -87,13 +88,14 @@ module _ (cells levels : List ℕ) (runs : ℕ) (ok : CheckableTable cells level
   abbrev pub named : ℕ → ℕ → Discrepancy → TableFault
   named c d off = Pair (c + 1) (d + 1) (off .value / getD levels d 0) (off .value % getD levels d 0) (off .times)
 
-  pub pair-farthest : (c d : ℕ) → d < length levels → {off : Discrepancy} {g : ℤ} → g ≡ off .gap
+  pub pair-farthest : (c d : ℕ) → d < length levels → {off : Discrepancy} {g : ℤ} {k : ℕ} → g ≡ off .gap → k ≡ ordinal (length levels) c d
       → off ≡ farthestKey (getD levels c 0 * getD levels d 0) runs (levelsKey cells (length levels) c (getD levels d 0) d)
-      → record { finding = Fails (named c d off); gap = g } ≡ farthestVerdict T c d
+      → record { finding = Fails (named c d off); gap = g; pairs = k } ≡ farthestVerdict T c d
   unfolding farthestKey farthestOff discrepancy farthestPair tableOf
-  pair-farthest c d h {off} off-gap e =
+  pair-farthest c d h {off} {g} {k} off-gap place e =
       let w = farthestPair T c d in
-      ap (λ g. record { finding = Fails (named c d off); gap = g }) off-gap
-      ∙ ap (λ (x : Discrepancy). record { finding = Fails (named c d x); gap = x .gap })
+      ap (λ g. record { finding = Fails (named c d off); gap = g; pairs = k }) off-gap
+      ∙ ap (λ (x : Discrepancy). record { finding = Fails (named c d x); gap = x .gap; pairs = k })
       (e ∙ ap (farthestOff (getD levels c 0 * getD levels d 0) runs) (λ i v. pair-times c d h v i))
-      ∙ ap (λ g. record { finding = Fails (namedPair T c d w); gap = g }) (sym (named-gap T c d w))
+      ∙ ap₂ (λ g k. record { finding = Fails (namedPair T c d w); gap = g; pairs = k }) (sym (named-gap T c d w))
+      (place ∙ sym (named-place T c d w))

@@ -11,6 +11,7 @@ ghost use Prim.Native.Nat.{_<_};
 ghost use Rattle.counting.specs.Table.{tableOf};
 ghost use Rattle.counting.specs.Checkable.{CheckableTable};
 ghost use lib.ListN.{length};
+ghost use Rattle.finite.specs.Pairs.{ordinal};
 ghost use Rattle.counting.specs.Verdict.{tableFinding, columnsFault, pairsFault, farthestVerdict, verdictOf, tableVerdict};
 ghost use Rattle.tally.specs.Tally.{Cleared};
 
@@ -25,6 +26,7 @@ pub fn check_table(cells: &[u8], levels: &[u8], runs: usize) -> TableVerdict
         TableFinding::Fails(fault) => TableVerdict {
             finding: TableFinding::Fails(fault),
             gap: 0,
+            pairs: 0,
         },
         TableFinding::Passes => uneven_pair(cells, levels, runs, &mut counters),
     }
@@ -55,7 +57,8 @@ fn uneven_column(cells: &[u8], levels: &[u8], runs: usize, counters: &mut [u16])
     TableFinding::Passes
 }
 
-// The first two columns with an uneven pair of levels.
+// The first two columns with an uneven pair of levels. A pair of columns is counted with each step, and past the last one the place is one more than there are
+// pairs (02, K8).
 fn uneven_pair(cells: &[u8], levels: &[u8], runs: usize, counters: &mut [u16]) -> TableVerdict
     requires { ⌜ CheckableTable (now cells) (now levels) runs ⌝ }
     requires { ⌜ Cleared (now counters) ⌝ }
@@ -69,7 +72,7 @@ fn uneven_pair(cells: &[u8], levels: &[u8], runs: usize, counters: &mut [u16]) -
         let t = levels[second] as usize;
         match levels_deviation(cells, runs, levels.len(), first, t, second, s * t, counters) {
             Deviation::At { value: _, times: _ } => {
-                return farthest_pair(cells, levels, runs, first, second);
+                return farthest_pair(cells, levels, runs, pair);
             }
             Deviation::Nowhere => {}
         }
@@ -78,21 +81,19 @@ fn uneven_pair(cells: &[u8], levels: &[u8], runs: usize, counters: &mut [u16]) -
     TableVerdict {
         finding: TableFinding::Passes,
         gap: 0,
+        pairs: pair.ordinal - 1,
     }
 }
 
 // The verdict on two columns with an uneven pair of levels: of their pairs it names the one that is farthest off (02, K5).
-fn farthest_pair(
-    cells: &[u8],
-    levels: &[u8],
-    runs: usize,
-    first: usize,
-    second: usize,
-) -> TableVerdict
+fn farthest_pair(cells: &[u8], levels: &[u8], runs: usize, pair: IndexPair) -> TableVerdict
     requires { ⌜ CheckableTable (now cells) (now levels) runs ⌝ }
-    requires { ⌜ (first < second) × (second < length (now levels)) ⌝ }
-    ensures { λ r. ⌜ r ≡ farthestVerdict (tableOf (now (cells .entry)) (now (levels .entry)) runs) first second ⌝ }
+    requires { ⌜ (pair .first < pair .second) × (pair .second < length (now levels)) ⌝ }
+    requires { ⌜ pair .ordinal ≡ ordinal (length (now levels)) (pair .first) (pair .second) ⌝ }
+    ensures { λ r. ⌜ r ≡ farthestVerdict (tableOf (now (cells .entry)) (now (levels .entry)) runs) (pair .first) (pair .second) ⌝ }
 {
+    let first = pair.first;
+    let second = pair.second;
     let s = levels[first] as usize;
     let t = levels[second] as usize;
     let farthest = farthest_levels(cells, runs, levels.len(), first, t, second, s * t);
@@ -105,5 +106,6 @@ fn farthest_pair(
             times: farthest.times,
         }),
         gap: farthest.gap,
+        pairs: pair.ordinal,
     }
 }

@@ -14,41 +14,42 @@ shared-slice-read-s : tie.Need-shared-slice-read-s
 shared-slice-read-s c = search needs
 
 cast-s : tie.Need-cast-s
-cast-s c = omega (arith, c .shared-slice-known3 .given (c .before .before .before .args .first))
+cast-s c = omega (arith, c .shared-slice-known3 .given (c .before .before .before .args .pair .first))
 
 shared-slice-read-t : tie.Need-shared-slice-read-t
 shared-slice-read-t c = search needs
 
 cast-t : tie.Need-cast-t
-cast-t c = omega (arith, c .shared-slice-known4 .given (c .before .before .before .before .args .second))
+cast-t c = omega (arith, c .shared-slice-known4 .given (c .before .before .before .before .args .pair .second))
 
 mul-farthest-levels : tie.Need-mul-farthest-levels
 mul-farthest-levels c =
     let start = c .before .before .before .before in
-    product-fits (start .pre .0 .levels-to _ (lt-trans (start .pre .1 .0) (start .pre .1 .1))) (c .shared-slice-known4 .given (start .args .second)) tt
+    product-fits (start .pre .0 .levels-to _ (lt-trans (start .pre .1 .0 .0) (start .pre .1 .0 .1))) (c .shared-slice-known4 .given (start .args .pair .second)) tt
 
 farthest-levels-requires : tie.Need-farthest-levels-requires
 farthest-levels-requires c κs =
     let start = c .before .before .before .before in
-    pair-keyed _ _ _ (start .pre .0) _ _ (lt-trans (start .pre .1 .0) (start .pre .1 .1)) (start .pre .1 .1)
-
-add-t12 : tie.Need-add-t12
-add-t12 c = search needs
+    pair-keyed _ _ _ (start .pre .0) _ _ (lt-trans (start .pre .1 .0 .0) (start .pre .1 .0 .1)) (start .pre .1 .0 .1)
 
 add-t13 : tie.Need-add-t13
 add-t13 c = search needs
 
-div-t14 : tie.Need-div-t14
-div-t14 c = let start = c .before .before .before .before .before .before in omega (arith, start .pre .0 .levels-from (start .args .second) (start .pre .1 .1))
+add-t14 : tie.Need-add-t14
+add-t14 c = search needs
 
-rem-t15 : tie.Need-rem-t15
-rem-t15 c = let start = c .before .before .before .before .before .before .before in omega (arith, start .pre .0 .levels-from (start .args .second) (start .pre .1 .1))
+div-t15 : tie.Need-div-t15
+div-t15 c = let start = c .before .before .before .before .before .before in omega (arith, start .pre .0 .levels-from (start .args .pair .second) (start .pre .1 .0 .1))
+
+rem-t16 : tie.Need-rem-t16
+rem-t16 c = let start = c .before .before .before .before .before .before .before in omega (arith, start .pre .0 .levels-from (start .args .pair .second) (start .pre .1 .0 .1))
 
 returns : tie.Need-returns
 returns c =
     let start = c .before .before .before .before .before .before .before .before in
-    pair-farthest _ _ _ (start .pre .0) (start .args .first) (start .args .second) (start .pre .1 .1)
+    pair-farthest _ _ _ (start .pre .0) (start .args .pair .first) (start .args .pair .second) (start .pre .1 .0 .1)
     (toZ-ofZ {w = w64} (sfits-of (c .struct-told .given .1 .1 .0 .1)))
+    (start .pre .1 .1)
     (c .before .before .before .farthest-levels .ensures)
 
 pub farthest-pair-spec : {M : Type 1} → statement M
@@ -61,8 +62,8 @@ farthest-pair-spec =
     cast-t
     mul-farthest-levels
     farthest-levels-requires
-    add-t12
     add-t13
-    div-t14
-    rem-t15
+    add-t14
+    div-t15
+    rem-t16
     returns)

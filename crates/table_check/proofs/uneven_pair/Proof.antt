@@ -5,11 +5,13 @@ use mathlib.Core.Option.{Option·map}
 use native.Mathlib.Nat.{lt-trans}
 use native.Mathlib.Omega.{arith}
 use borrow.Author.Needs.{needs}
+use lib.IntN.{pos}
 use lib.ListN.{length}
 use Rattle.finite.proofs.Fits.{product-fits}
-use Rattle.finite.proofs.PairOrder.{Searched, searched-start, searched-next, searched-none, searched-at, left, left-falls}
+use Rattle.finite.proofs.PairOrder.{Searched, searched-start, searched-next, searched-none, searched-at, searched-few, searched-all, left, left-falls}
 use Rattle.counting.specs.Table.{tableOf}
 use Rattle.counting.specs.Verdict.{pairFault, pairsFault, verdictOf}
+use Rattle.counting.specs.declared.verdict.TableFinding.the-variants.{Passes}
 use Rattle.tally.specs.Tally.{Cleared}
 use Rattle.tally.proofs.Tallies.{at-some, nowhere-none}
 use Rattle.table_check.proofs.TableKeys.{pair-keyed, pair-deviation}
@@ -60,7 +62,7 @@ enum-told c = search needs
 farthest-pair-requires : tie.Need-farthest-pair-requires Inv-loop μ-loop
 farthest-pair-requires c κs =
     let l = c .before .before .before .before .before .before .before .before .before .before .loop in
-    (c .before .before .before .before .before .before .before .before .before .before .before .before .before .before .before .pre .0, (l .inv .2 .ordered, c .before .before .before .before .before .before .before .before .if1 .taken))
+    (c .before .before .before .before .before .before .before .before .before .before .before .before .before .before .before .pre .0, ((l .inv .2 .ordered, c .before .before .before .before .before .before .before .before .if1 .taken), l .inv .2 .placed))
 
 same-length : tie.Need-same-length Inv-loop μ-loop
 same-length c = search needs
@@ -79,7 +81,11 @@ enum-told-2 : tie.Need-enum-told-2 Inv-loop μ-loop
 enum-told-2 c = search needs
 
 next-requires : tie.Need-next-requires Inv-loop μ-loop
-next-requires c κs = (c .before .before .before .before .before .before .before .before .before .before .loop .inv .2 .ordered, c .before .before .before .before .before .before .before .before .if1 .taken)
+next-requires c κs =
+    let l = c .before .before .before .before .before .before .before .before .before .before .loop in
+    let taken = c .before .before .before .before .before .before .before .before .if1 .taken in
+    let narrow = c .before .before .before .before .before .before .before .before .before .before .before .before .before .before .before .pre .0 .narrow in
+    (l .inv .2 .ordered, taken, searched-few _ _ (l .pair) (l .inv .2) taken narrow)
 
 loop-less : tie.Need-loop-less Inv-loop μ-loop
 loop-less c = rw (c .next .ensures) (left-falls _ _ (c .before .before .before .before .before .before .before .before .before .before .before .loop .inv .2 .ordered) (c .before .before .before .before .before .before .before .before .before .if1 .taken))
@@ -95,12 +101,19 @@ loop-again c =
           (ap (Option·map _) (sym (pair-deviation _ _ _ (c .before .before .before .before .before .before .before .before .before .before .before .before .before .before .before .before .pre .0) _ _ taken) ∙ nowhere-none _ (sym (c .before .enum-told2 .given .1) ∙ called .ensures .0)))),
     )
 
+sub-t20 : tie.Need-sub-t20 Inv-loop μ-loop
+sub-t20 c = omega (arith, searched-all _ _ _ (c .before .before .before .loop .inv .2) (c .before .if1 .left))
+
 same-length-2 : tie.Need-same-length-2 Inv-loop μ-loop
 same-length-2 c = search needs
 
 returns-2 : tie.Need-returns-2 Inv-loop μ-loop
 unfolding pairsFault tableOf
-returns-2 c = sym (ap (verdictOf _) (searched-none _ _ _ (c .before .before .loop .inv .2) (c .if1 .left)))
+returns-2 c =
+    let l = c .before .before .before .loop in
+    let left = c .before .if1 .left in
+    ap (λ k. record { finding = Passes; gap = pos 0; pairs = k }) (omega (arith, searched-all _ _ (l .pair) (l .inv .2) left))
+    ∙ sym (ap (verdictOf _) (searched-none _ _ (l .pair) (l .inv .2) left))
 
 pub uneven-pair-spec : {M : Type 1} → statement M
 uneven-pair-spec =
@@ -124,5 +137,6 @@ uneven-pair-spec =
     next-requires
     loop-less
     loop-again
+    sub-t20
     same-length-2
     returns-2)
