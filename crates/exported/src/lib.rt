@@ -67,16 +67,18 @@ pub extern "C" fn yurbantze_charge(
     quote.answer
 }
 
-// Checks a table that is handed in by itself (02, K5), as `written_check::check_written` does: kind 1, rows, columns, level counts and entries. The answer
+// Checks a table that is handed in by itself (02, K5 and K8), as `written_check::check_written` does: kind 1, rows, columns, level counts and entries. The answer
 // is seven numbers: zeros for a table that passes, or 01's number of the refusal, 2 to 5, and its six details, the table being ingredient 1. The first is
-// returned. Beside them is a signed number, the gap of the pair that refusal 5 names, and 0 otherwise. Nothing is required of a caller here either.
+// returned. Beside them is a signed number, the gap of the pair that refusal 5 names, and 0 otherwise; and how many pairs of columns were
+// counted. Nothing is required of a caller here either.
 #[no_mangle]
 pub extern "C" fn yurbantze_check_table(
     list: &[u16],
     answer: &mut [usize; 7],
     gap: &mut i64,
+    pairs: &mut usize,
 ) -> usize
-    ensures { λ r. ⌜ CheckInNumbers (now (list .entry)) r (now (answer .exit)) (now (gap .exit)) ⌝ }
+    ensures { λ r. ⌜ CheckInNumbers (now (list .entry)) r (now (answer .exit)) (now (gap .exit)) (now (pairs .exit)) ⌝ }
 {
     let check = check_written(list);
     let passing = check.passing;
@@ -84,5 +86,6 @@ pub extern "C" fn yurbantze_check_table(
     let seven = check_numbers(passing);
     *answer = seven;
     *gap = signed;
+    *pairs = check.pairs;
     seven[0]
 }

@@ -46,13 +46,14 @@ pub fn check_numbers(passing: Passing) -> [usize; 7]
     }
 }
 
-// A refusal, which has no gap.
+// A refusal by question 2 or 3, after which there is no gap, and no pair of columns was counted.
 fn refused(why: Refusal) -> TableCheck
     ensures { λ r. ⌜ r ≡ refusedCheck why ⌝ }
 {
     TableCheck {
         passing: Passing::Refused(why),
         gap: 0,
+        pairs: 0,
     }
 }
 
@@ -116,13 +117,14 @@ fn check_in_range(list: &[u16], what: Located) -> TableCheck
     judged(verdict_there(list, rows, columns, levels_at, entries_at))
 }
 
-// What a verdict comes to, with the gap beside it.
+// What a verdict comes to, with the gap and the pairs of columns that were counted beside it.
 fn judged(verdict: TableVerdict) -> TableCheck
     ensures { λ r. ⌜ r ≡ verdictCheck verdict ⌝ }
 {
     TableCheck {
         passing: table_passing(1, verdict),
         gap: verdict.gap,
+        pairs: verdict.pairs,
     }
 }
 

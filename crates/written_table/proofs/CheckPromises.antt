@@ -3,9 +3,10 @@
 use mathlib.Core.Path.{_≡_, refl, sym, _∙_, ap, subst}
 use mathlib.Core.Logic.{_⊎_, inl, inr, ⊎-elim}
 use mathlib.Core.List.{List}
-use Prim.Native.Nat.{ℕ}
+use Prim.Native.Nat.{ℕ, zero-le}
 use native.Mathlib.Omega.{arith}
 use lib.ListN.{length}
+use Rattle.finite.proofs.Ordinals.{ordinals}
 use Rattle.order.specs.Order.{Ingredient, table, matrix, generator}
 use Rattle.order.specs.Reader.{Parsed, value, refused}
 use Rattle.order.specs.Range.{ingredientRange}
@@ -14,12 +15,12 @@ use Rattle.order.specs.declared.Entries.the-variants.{InRange, OutOfRange, Unre
 use Rattle.order.proofs.Law.{refused-no-value, same-value}
 use Rattle.order.proofs.InRange.{ingredient-iff}
 use Rattle.counting.specs.Table.{tableOf, Even}
-use Rattle.counting.specs.Verdict.{tableVerdict}
+use Rattle.counting.specs.Verdict.{pairsCounted, tableVerdict}
 use Rattle.counting.specs.declared.verdict.TableFault.{TableFault}
 use Rattle.counting.specs.declared.verdict.TableFault.the-variants.{Column, Pair}
 use Rattle.counting.specs.declared.verdict.TableFinding.{TableFinding}
 use Rattle.counting.specs.declared.verdict.TableFinding.the-variants.{Passes, Fails}
-use Rattle.counting.proofs.TableVerdicts.{table-passes, passes-gap, table-fails}
+use Rattle.counting.proofs.TableVerdicts.{table-passes, passes-gap, table-fails, verdict-counted, counted-most}
 use Rattle.sheets.specs.Outcome.{tableRefusal}
 use Rattle.sheets.specs.declared.answer.Refusal.{Refusal}
 use Rattle.sheets.specs.declared.answer.Refusal.the-variants.{Unreadable, EntryOutOfRange}
@@ -66,6 +67,12 @@ finding-fails (Fails (Pair c d x y n)) (Pair c′ d′ x′ y′ n′) e =
     let five : n ≡ n′ = cc in
     rw (one, two, three, four, five)
 
+-- So the answer tells what was found.
+finding-same : (f found : TableFinding) → passingOf (tableRefusal 1 f) ≡ passingOf (tableRefusal 1 found) → f ≡ found
+unfolding passingOf tableRefusal
+finding-same f Passes e = finding-passes f e
+finding-same f (Fails fault) e = finding-fails f fault e
+
 -- Refusals 2 and 3.
 abbrev Unjudged : Refusal → Type 0
 Unjudged why = (place : ℕ) × ((why ≡ Unreadable place) ⊎ (why ≡ EntryOutOfRange place))
@@ -105,6 +112,10 @@ module _ (list : List ℕ) where
         uneven-fails = λ w odd. absurd (none-written _ _ _ w);
         gap-passes = λ p. refl;
         gap-none = λ place p. refl;
+        pairs-are = λ w found p. absurd (none-written _ _ _ w);
+        in-order = ordinals;
+        pairs-none = λ place p. refl;
+        pairs-most = zero-le;
       }
 
   -- The table that was read is the only one that the list writes.
@@ -116,6 +127,7 @@ module _ (list : List ℕ) where
     -- The verdict on a table with every entry in range.
     verdict-promised : Writes list rows levels entries → verdictCheck (tableVerdict (tableOf entries levels rows)) ≡ tableCheck list
         → CheckPromise list (verdictCheck (tableVerdict (tableOf entries levels rows)))
+    unfolding tableOf
     verdict-promised w is =
         let T = tableOf entries levels rows in
         record {
@@ -135,12 +147,22 @@ module _ (list : List ℕ) where
           uneven-fails = λ v odd. named (only (λ g. Evenly g → ⊥) v odd) (tableVerdict T .finding) refl;
           gap-passes = λ p. passes-gap T (finding-passes _ p);
           gap-none = λ place p. absurd (⊎-elim (unreadable-no-finding _ place) (out-no-finding _ place) p);
+          pairs-are = λ {levels = levels′} v found p.
+              rw (only (Wide (length levels′)) v refl) (verdict-counted T ∙ ap (pairsCounted (length levels)) (finding-same _ found p));
+          in-order = ordinals;
+          pairs-none = λ place p. absurd (⊎-elim (unreadable-no-finding _ place) (out-no-finding _ place) p);
+          pairs-most = counted-most T (w .limits .1 .1);
         }
       where
         Evenly : Ingredient → Type 0
         Evenly (table rows levels entries) = Even 2 (tableOf entries levels rows)
         Evenly (matrix rows columns p entries) = Unit {0}
         Evenly (generator t s widths entries) = Unit {0}
+
+        Wide : ℕ → Ingredient → Type 0
+        Wide m (table rows levels entries) = m ≡ length levels
+        Wide m (matrix rows columns p entries) = Unit {0}
+        Wide m (generator t s widths entries) = Unit {0}
 
         named : (Even 2 (tableOf entries levels rows) → ⊥) → (f : TableFinding) → tableVerdict (tableOf entries levels rows) .finding ≡ f
             → (fault : TableFault) × (passingOf (tableRefusal 1 (tableVerdict (tableOf entries levels rows) .finding)) ≡ passingOf (tableRefusal 1 (Fails fault)))

@@ -74,7 +74,7 @@ unfolding tableCheck
 check-numbered list = parsed-numbered (readTable list)
 
 -- What the definitions give keeps the promise in numbers.
-of-definition : (list : List ℕ) → CheckInNumbers list (firstOf (tableCheck list .passing)) (checkNumbers (tableCheck list .passing)) (tableCheck list .gap)
+of-definition : (list : List ℕ) → CheckInNumbers list (firstOf (tableCheck list .passing)) (checkNumbers (tableCheck list .passing)) (tableCheck list .gap) (tableCheck list .pairs)
 of-definition list =
     let promise = check-promised list in
     record {
@@ -82,12 +82,14 @@ of-definition list =
       numbers-are = refl;
       number-is = refl;
       gap-is = refl;
+      pairs-is = refl;
       passes-when = (λ z. promise .passes-when .0 (zero-passes _ z), λ w. passes-zero _ (promise .passes-when .1 w));
       refused-as = check-numbered list;
     }
 
-pub check-in-numbers : {list : List ℕ} {r : TableCheck} {number : ℕ} {numbers : List ℕ} {gap : ℤ} → CheckPromise list r
-    → numbers ≡ checkNumbers (r .passing) → number ≡ getD numbers 0 0 → gap ≡ r .gap → CheckInNumbers list number numbers gap
-check-in-numbers {list} promise e first signed =
+pub check-in-numbers : {list : List ℕ} {r : TableCheck} {number : ℕ} {numbers : List ℕ} {gap : ℤ} {pairs : ℕ} → CheckPromise list r
+    → numbers ≡ checkNumbers (r .passing) → number ≡ getD numbers 0 0 → gap ≡ r .gap → pairs ≡ r .pairs
+    → CheckInNumbers list number numbers gap pairs
+check-in-numbers {list} promise e first signed counted =
     let is = promise .answered in
-    rw (first, e, signed, is) (of-definition list)
+    rw (first, e, signed, counted, is) (of-definition list)

@@ -1,15 +1,18 @@
--- What the check of a table that is handed in by itself promises: document 02, K5.
+-- What the check of a table that is handed in by itself promises: document 02, K5 and K8.
 use mathlib.Core.Path.{_≡_}
 use mathlib.Core.Logic.{_↔_, _⊎_}
 use mathlib.Core.List.{List}
 use Prim.Native.Nat.{ℕ, _≤_, _<_}
 use lib.IntN.{ℤ, pos}
 use lib.ListN.{length, getD}
+use Rattle.finite.specs.Pairs.{Ordinals}
 use Rattle.order.specs.Order.{table, IngredientLimits, writtenIngredient}
 use Rattle.order.specs.Range.{bound}
 use Rattle.counting.specs.Table.{tableOf, Even}
+use Rattle.counting.specs.Verdict.{pairsCounted}
 use Rattle.counting.specs.Failures.{FirstFault}
 use Rattle.counting.specs.declared.verdict.TableFault.{TableFault}
+use Rattle.counting.specs.declared.verdict.TableFinding.{TableFinding}
 use Rattle.counting.specs.declared.verdict.TableFinding.the-variants.{Fails}
 use Rattle.sheets.specs.Outcome.{tableRefusal}
 use Rattle.sheets.specs.declared.answer.Refusal.the-variants.{Unreadable, EntryOutOfRange}
@@ -55,3 +58,11 @@ pub record CheckPromise (list : List ℕ) (r : TableCheck) : Type 0 where
   -- after a pass the gap is 0, and after refusals 2 and 3
   pub gap-passes : r .passing ≡ AllPass → r .gap ≡ pos 0
   pub gap-none : (place : ℕ) → (r .passing ≡ Refused (Unreadable place)) ⊎ (r .passing ≡ Refused (EntryOutOfRange place)) → r .gap ≡ pos 0
+  -- the pairs of columns that were counted go with what was found of the table (02, K8): all of them, none, or the place of the two that are named
+  pub pairs-are : {rows : ℕ} {levels entries : List ℕ} → Writes list rows levels entries → (found : TableFinding)
+      → r .passing ≡ passingOf (tableRefusal 1 found) → r .pairs ≡ pairsCounted (length levels) found
+  -- that is their place in the order 1-2, 1-3, .., whatever the number of columns
+  pub in-order : (m : ℕ) → Ordinals m
+  -- after refusals 2 and 3 none were counted, and never more than 8,128
+  pub pairs-none : (place : ℕ) → (r .passing ≡ Refused (Unreadable place)) ⊎ (r .passing ≡ Refused (EntryOutOfRange place)) → r .pairs ≡ 0
+  pub pairs-most : r .pairs ≤ 8128

@@ -1,4 +1,4 @@
--- A table that is handed in by itself: document 02, K5. It is written as an ingredient of an order is (01, "The order"), kind 1, rows, columns, level
+-- A table that is handed in by itself: document 02, K5 and K8. It is written as an ingredient of an order is (01, "The order"), kind 1, rows, columns, level
 -- counts and entries, with nothing after them; and the questions 2, 3 and 4 are asked of it as of ingredient 1.
 use mathlib.Core.List.{List}
 use Prim.Native.Nat.{ℕ}
@@ -28,13 +28,13 @@ readTable list =
     when (ltb 32768 (length list)) (refused 32768)
     (when (eqb (getD list 0 0) 1) ((readIngredient >>= atEnd) list 0) (refused 0))
 
--- A refusal has no pair to tell the gap of.
+-- By questions 2 and 3 there is no pair of levels to tell the gap of, and no pair of columns is counted.
 abbrev pub refusedCheck : Refusal → TableCheck
-refusedCheck why = record { passing = Refused why; gap = pos 0 }
+refusedCheck why = record { passing = Refused why; gap = pos 0; pairs = 0 }
 
--- Question 4: the verdict on ingredient 1, with the gap beside it.
+-- Question 4: the verdict on ingredient 1, with the gap and the pairs of columns that were counted beside it.
 abbrev pub verdictCheck : TableVerdict → TableCheck
-verdictCheck verdict = record { passing = passingOf (tableRefusal 1 (verdict .finding)); gap = verdict .gap }
+verdictCheck verdict = record { passing = passingOf (tableRefusal 1 (verdict .finding)); gap = verdict .gap; pairs = verdict .pairs }
 
 -- Question 3, and then the verdict. The question is asked of all that was read, so the last case does not come up.
 abbrev pub rangeCheck : Entries → TableVerdict → TableCheck

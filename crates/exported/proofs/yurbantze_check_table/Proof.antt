@@ -19,7 +19,7 @@ array-read-result c = search needs
 returns : tie.Need-returns
 returns c =
     check-in-numbers (c .before .before .check-written .ensures) (c .check-numbers .ensures) refl
-    (toZ-ofZ {w = w64} (sfits-of (c .before .struct-told .given .1 .0 .1)))
+    (toZ-ofZ {w = w64} (sfits-of (c .before .struct-told .given .1 .0 .1))) refl
 
 pub yurbantze-check-table-spec : {M : Type 1} → statement M
 yurbantze-check-table-spec =
