@@ -1,10 +1,11 @@
-// What is printed of the check of a table (document 02, K5). It is put whole into a buffer, so that a program only has to read, to check and to write.
+// What is printed of the check of a table (document 02, K5 and K8). It is put whole into a buffer, so that a program only has to read, to check and to write.
 ghost use Prim.Native.Nat.{_+_, _≤_};
 ghost use lib.ListN.{length};
 ghost use Rattle.buffers.specs.Put.{Put};
-ghost use Rattle.check_report.specs.CheckReport.{passingLine, gapLine, checkPrinted, checkRoom};
+ghost use Rattle.check_report.specs.CheckReport.{passingLine, gapLine, pairsLine, checkPrinted, checkRoom};
 use buffers::put_byte;
 use buffers::put_bytes;
+use decimals::put_number;
 use decimals::put_signed;
 use question_4::Passing;
 use report::put_refused;
@@ -17,7 +18,8 @@ pub fn put_check(buf: &mut [u8], check: TableCheck) -> usize
 {
     let passing = check.passing;
     let after_passing = put_passing(&mut buf[..155], passing);
-    put_gap(buf, after_passing, check.gap)
+    let after_gap = put_gap(buf, after_passing, check.gap);
+    put_pairs(buf, after_gap, check.pairs)
 }
 
 // The first line, at the front of a buffer: that the table passes, or the refusal.
@@ -39,4 +41,14 @@ fn put_gap(buf: &mut [u8], at: usize, gap: i64) -> usize
     let after_word = put_bytes(buf, at, b"gap ");
     let after_gap = put_signed(buf, after_word, gap);
     put_byte(buf, after_gap, b'\n')
+}
+
+// The line of the pairs of columns, from a place of the buffer on.
+fn put_pairs(buf: &mut [u8], at: usize, pairs: usize) -> usize
+    requires { ⌜ at + 27 ≤ length (now buf) ⌝ }
+    ensures { λ r. ⌜ Put (now (buf .entry)) at (pairsLine pairs) (now (buf .exit)) r ⌝ }
+{
+    let after_word = put_bytes(buf, at, b"pairs ");
+    let after_pairs = put_number(buf, after_word, pairs);
+    put_byte(buf, after_pairs, b'\n')
 }

@@ -1,5 +1,6 @@
-// The checker: reads a table as decimal numbers from standard input, written as an ingredient of an order is, and prints whether it passes or why not, and the gap
-// (document 02, K5). What is printed for the text that is read is a definition, `readingChecked` in crates/check_report/specs/CheckReport.antt.
+// The checker: reads a table as decimal numbers from standard input, written as an ingredient of an order is, and prints whether it passes or why not, the gap,
+// and how many pairs of columns were counted (document 02, K5 and K8). What is printed for the text that is read is a definition, `readingChecked` in
+// crates/check_report/specs/CheckReport.antt.
 ghost use Prim.Native.Nat.{_≤_};
 ghost use lib.ListN.{length, take};
 ghost use Rattle.buffers.specs.Put.{Put};
@@ -18,7 +19,7 @@ use written_check::check_written;
 use written_table::TableCheck;
 
 fn main() {
-    let mut out = [0u8; 180];
+    let mut out = [0u8; 207];
     let end = answer_input(&mut out);
     write_answer(&out[..end]);
 }
@@ -70,6 +71,7 @@ fn put_unreadable(place: usize, out: &mut [u8]) -> usize
         TableCheck {
             passing: Passing::Refused(Refusal::Unreadable { place }),
             gap: 0,
+            pairs: 0,
         },
     )
 }

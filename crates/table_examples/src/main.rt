@@ -2,8 +2,8 @@
 //
 //     L a1 .. aL
 //
-// for a list of the L numbers a1 .. aL. Of each is written a line: the seven numbers of the answer, and the gap. The file `stdout`, with which this is
-// compared, is made by the second implementation.
+// for a list of the L numbers a1 .. aL. Of each is written a line: the seven numbers of the answer, the gap, and the pairs of columns that were
+// counted. The file `stdout`, with which this is compared, is made by the second implementation.
 ghost use Prim.Native.Nat.{_≤_, _<_};
 ghost use lib.ListN.{length};
 use decimals::put_signed;
@@ -64,12 +64,19 @@ fn write_check(check: TableCheck) {
         i += 1;
     }
     write_gap(check.gap);
+    write_pairs(check.pairs);
 }
 
-// Writes the gap, and ends the line.
+// Writes the gap, and a blank after it.
 fn write_gap(gap: i64) {
     let mut digits = [0u8; 20];
     let end = put_signed(&mut digits, 0, gap);
     io::write_all(STDOUT_FILENO, &digits[..end]);
+    io::write_all(STDOUT_FILENO, b" ");
+}
+
+// Writes the pairs of columns, and ends the line.
+fn write_pairs(pairs: usize) {
+    io::print_decimal(STDOUT_FILENO, pairs as u64);
     io::write_all(STDOUT_FILENO, b"\n");
 }

@@ -43,6 +43,9 @@ loop-again c = search needs
 write-gap-requires : tie.Need-write-gap-requires Inv-loop μ-loop
 write-gap-requires c κs = search needs
 
+write-pairs-requires : tie.Need-write-pairs-requires Inv-loop μ-loop
+write-pairs-requires c κs = search needs
+
 returns : tie.Need-returns Inv-loop μ-loop
 returns c = search needs
 
@@ -63,4 +66,5 @@ write-check-spec =
     loop-less
     loop-again
     write-gap-requires
+    write-pairs-requires
     returns)
