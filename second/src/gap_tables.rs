@@ -195,16 +195,22 @@ fn after_many_columns() -> Vec<(String, Table)> {
     ]
 }
 
-/// 63 columns of 2 levels. A column has a number, from 1 up to 62, and is the parity of the ones that
-/// it has in common with the run's number; the last two have the same. The runs are 64 or a multiple.
+/// 63 columns of 2 levels, with the numbers from 1 up to 62, of which the last two have the same. The
+/// runs are 64 or a multiple.
 pub fn last_two_equal(runs: usize) -> Table {
-    let numbers = Vec::from_iter((1..=62).chain([62]));
+    parities(runs, &Vec::from_iter((1..=62).chain([62])))
+}
+
+/// Columns of 2 levels. A column has a number, from 1 on, and is the parity of the ones that it has in
+/// common with the run's number. The runs are a power of 2 above all of these numbers, or a multiple:
+/// then two columns are even together where their numbers differ, and equal where they do not.
+pub fn parities(runs: usize, numbers: &[usize]) -> Table {
     let run = |run: usize| {
         let parity = |number: &usize| (run & number).count_ones() as usize % 2;
         numbers.iter().map(parity).collect()
     };
     Table {
-        levels: vec![2; 63],
+        levels: vec![2; numbers.len()],
         runs: (0..runs).map(run).collect(),
     }
 }

@@ -1,5 +1,6 @@
 //! Random calls: tables that pass, such as do not, and such as are no tables.
 
+use crate::gap_tables::parities;
 use crate::maker::{damage, passing_table, plain, table_numbers, uneven_table, Random};
 use crate::order::Table;
 
@@ -53,8 +54,8 @@ fn even_table(random: &mut Random, limits: &Limits) -> Table {
     passing_table(random, runs, most_columns)
 }
 
-/// Columns of two levels, each the parity of the ones that its number and the run's have in common. In
-/// one column, perhaps, two entries change places, or it is that of another number.
+/// Columns of two levels, with different numbers (`parities`). In one column, perhaps, two entries change
+/// places, or it has the number of another.
 fn wide_table(random: &mut Random) -> Table {
     let (runs, most) = random.pick(&[(32, 31), (64, 63), (128, 127), (256, 127), (512, 63)]);
     let columns = random.between(most / 2, most);
@@ -66,17 +67,12 @@ fn wide_table(random: &mut Random) -> Table {
     if change == 1 {
         numbers[place] = random.pick(&numbers);
     }
-    let parity = |run: usize, number: &usize| (run & number).count_ones() as usize % 2;
-    let row = |run: usize| numbers.iter().map(|number| parity(run, number)).collect();
-    let mut rows: Vec<Vec<usize>> = (0..runs).map(row).collect();
+    let mut table = parities(runs, &numbers);
     if change == 2 {
         let (a, b) = (random.below(runs), random.below(runs));
-        let of_a = rows[a][place];
-        rows[a][place] = rows[b][place];
-        rows[b][place] = of_a;
+        let of_a = table.runs[a][place];
+        table.runs[a][place] = table.runs[b][place];
+        table.runs[b][place] = of_a;
     }
-    Table {
-        levels: vec![2; columns],
-        runs: rows,
-    }
+    table
 }
