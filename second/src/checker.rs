@@ -1,4 +1,5 @@
-//! The check of one table that is handed in by itself, written as an ingredient of an order is; 02, K5.
+//! The check of one table that is handed in by itself, written as an ingredient of an order is; 02, K5
+//! and K8.
 
 use crate::counting::{check_table, TableCheck};
 use crate::order::read_table;
@@ -29,5 +30,5 @@ pub fn print_check(text: &[u8]) -> String {
         Ok(()) => "passes\n".to_string(),
         Err(refusal) => print(refusal),
     };
-    format!("{first_line}gap {}\n", check.gap)
+    format!("{first_line}gap {}\npairs {}\n", check.gap, check.pairs)
 }

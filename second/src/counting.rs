@@ -32,13 +32,18 @@ pub struct TableCheck {
     /// s × t × times - N of the pair of levels that refusal 5 names, below zero where the pair is short
     /// and above where it is over; 0 in every other case. 02, K5.
     pub gap: i64,
+    /// How many pairs of columns were counted, with the one that refusal 5 names for the last; 0 where
+    /// the check did not come to the pairs. 02, K8.
+    pub pairs: usize,
 }
 
 impl TableCheck {
+    /// Refused before a pair of columns was counted.
     pub(crate) fn refused(refusal: Answer) -> TableCheck {
         TableCheck {
             verdict: Err(refusal),
             gap: 0,
+            pairs: 0,
         }
     }
 }
@@ -54,18 +59,22 @@ pub fn check_table(ingredient_number: usize, table: &Table) -> TableCheck {
             }
         }
     }
+    let mut counted = 0;
     for (a, b) in pairs(table.levels.len()) {
+        counted += 1;
         if let Some(LevelPair { x, y, times, gap }) = farthest_pair(table, a, b) {
             let refusal = refused(5, &[ingredient_number, a + 1, b + 1, x, y, times]);
             return TableCheck {
                 verdict: Err(refusal),
                 gap,
+                pairs: counted,
             };
         }
     }
     TableCheck {
         verdict: Ok(()),
         gap: 0,
+        pairs: counted,
     }
 }
 

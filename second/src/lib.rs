@@ -1,4 +1,4 @@
-//! A second implementation of the planner of document 01 with requests K1 to K7 of document 02,
+//! A second implementation of the planner of document 01 with requests K1 to K8 of document 02,
 //! written from these documents alone and as plainly as possible, to be compared with the proved one.
 //! "01" and "02" in comments are those documents.
 //!
@@ -14,6 +14,8 @@
 //! - `maker`: random orders for the vectors and the tests; the planner does not use it;
 //! - `records`: orders with their answers as stored texts; the planner does not use it;
 //! - `gap_tables`: tables that show which pair refusal 5 names; the planner does not use it;
+//! - `pair_tables`: tables that show how many pairs of columns are counted; the planner does not use
+//!   it;
 //! - `page_calls`: calls for pages with their answers, stored and random; the planner does not use it;
 //! - `table_calls`: the same for the check of a table;
 //! - `charge_calls`: the same for charges;
@@ -32,6 +34,7 @@ pub mod maker;
 pub mod order;
 pub mod page_calls;
 pub mod pages;
+pub mod pair_tables;
 pub mod records;
 mod sheets;
 mod steps;

@@ -4,7 +4,7 @@
 //! A text of calls has a call to a line, in decimal numbers of sixteen bits with single spaces
 //! between: how many numbers are handed in, and these numbers. A text of answers has a line for each
 //! call: 0 and six zeros for a table that passes, or the number of the refusal and its six details;
-//! then the gap.
+//! then the gap, and how many pairs of columns were counted.
 
 mod examples;
 mod random;
@@ -40,9 +40,9 @@ pub fn answers(text: &[u8]) -> String {
     read(text).iter().map(line).collect()
 }
 
-/// The seven numbers of an answer, and the gap.
-pub fn numbers(check: &TableCheck) -> [i64; 8] {
-    let mut numbers = [0; 8];
+/// The seven numbers of an answer, the gap, and how many pairs of columns were counted.
+pub fn numbers(check: &TableCheck) -> [i64; 9] {
+    let mut numbers = [0; 9];
     match &check.verdict {
         Ok(()) => {}
         Err(Answer::Refused { number, details }) => {
@@ -54,6 +54,7 @@ pub fn numbers(check: &TableCheck) -> [i64; 8] {
         Err(Answer::Filled { .. }) => unreachable!("no refusal is an order that is filled"),
     }
     numbers[7] = check.gap;
+    numbers[8] = check.pairs as i64;
     numbers
 }
 

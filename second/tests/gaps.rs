@@ -1,5 +1,5 @@
 //! The check of a table by itself: the pair of levels that refusal 5 names, its gap (02, K5), and the
-//! reading of a table that is handed in.
+//! reading of a table that is handed in. How many pairs of columns are counted is tried in pairs.rs.
 
 mod common;
 use common::*;
@@ -11,9 +11,9 @@ use second::table_calls::{self, Limits};
 use second::{check_table, Answer, TableCheck};
 use std::collections::BTreeMap;
 
-/// What 01 and K5 say of a table, of all pairs of levels at once: how often each stands in the runs, and
-/// the first of the farthest.
-fn said(ingredient: i64, table: &Table) -> [i64; 8] {
+/// What 01, K5 and K8 say of a table, of all pairs of levels at once: how often each stands in the runs,
+/// and the first of the farthest.
+fn said(ingredient: i64, table: &Table) -> [i64; 9] {
     let n = table.runs.len() as i64;
     let columns = table.levels.len();
     for column in 0..columns {
@@ -24,7 +24,8 @@ fn said(ingredient: i64, table: &Table) -> [i64; 8] {
         let s = times.len() as i64;
         if let Some(level) = times.iter().position(|times| s * times != n) {
             let column = column as i64 + 1;
-            return [4, ingredient, column, level as i64, times[level], 0, 0, 0];
+            let (level, times) = (level as i64, times[level]);
+            return [4, ingredient, column, level, times, 0, 0, 0, 0];
         }
     }
     for first in 0..columns {
@@ -48,16 +49,18 @@ fn said(ingredient: i64, table: &Table) -> [i64; 8] {
             all.sort();
             let (size, x, y, times) = all[0];
             if size != 0 {
+                let pairs = position_of_pair(columns, first + 1, second + 1);
                 let [first, second, x, y] = [first + 1, second + 1, x, y].map(|n| n as i64);
-                return [5, ingredient, first, second, x, y, times, gap(times)];
+                return [5, ingredient, first, second, x, y, times, gap(times), pairs];
             }
         }
     }
-    [0; 8]
+    let pairs = (columns * (columns - 1) / 2) as i64;
+    [0, 0, 0, 0, 0, 0, 0, 0, pairs]
 }
 
 /// The check of a table, seen to be what is said, and within its bounds.
-fn checked(table: &Table) -> [i64; 8] {
+fn checked(table: &Table) -> [i64; 9] {
     let numbers = table_calls::numbers(&check_table(1, table));
     assert_eq!(numbers, said(1, table), "{table:?}");
     if numbers[0] == 5 {
@@ -69,7 +72,7 @@ fn checked(table: &Table) -> [i64; 8] {
 }
 
 /// What refusal 5 says, each thing for itself.
-fn assert_is_farthest(table: &Table, [_, _, a, b, x, y, times, gap]: [i64; 8]) {
+fn assert_is_farthest(table: &Table, [_, _, a, b, x, y, times, gap, _]: [i64; 9]) {
     let n = table.runs.len() as i64;
     let levels = |column: i64| table.levels[column as usize - 1] as i64;
     let (s, t) = (levels(a), levels(b));
@@ -98,15 +101,8 @@ fn assert_is_farthest(table: &Table, [_, _, a, b, x, y, times, gap]: [i64; 8]) {
     assert!((-512..=32_256).contains(&gap));
 }
 
-fn numbers_of(list: &[u16]) -> [i64; 8] {
+fn numbers_of(list: &[u16]) -> [i64; 9] {
     table_calls::numbers(&check_list(list))
-}
-
-/// The list that writes a table.
-fn list_of(sheet: &Table) -> Vec<u16> {
-    let numbers = |list: &[usize]| -> Vec<u16> { list.iter().map(|&n| n as u16).collect() };
-    let runs: Vec<Vec<u16>> = sheet.runs.iter().map(|run| numbers(run)).collect();
-    table(&numbers(&sheet.levels), &runs)
 }
 
 /// Two columns in which x and y stand together counts[x][y] times.
@@ -131,11 +127,12 @@ fn the_example_of_02() {
         TableCheck {
             verdict: Err(refusal(5, &[1, 1, 2, 0, 0, 2])),
             gap: 4,
+            pairs: 1,
         }
     );
     assert_eq!(
         print_check(b"1 4 2 2 2 0 0 0 0 1 1 1 1"),
-        "refused 5 1 1 2 0 0 2\ngap 4\n"
+        "refused 5 1 1 2 0 0 2\ngap 4\npairs 1\n"
     );
     assert_eq!(
         planned(&order(&[list], &[&[1, 1]])),
@@ -145,15 +142,20 @@ fn the_example_of_02() {
 
 #[test]
 fn the_gap_is_0_after_a_pass_and_after_refusal_4() {
-    let passing = TableCheck {
+    let passing = |pairs: usize| TableCheck {
         verdict: Ok(()),
         gap: 0,
+        pairs,
     };
-    assert_eq!(check_list(&numbers("1 4 2 2 2 0 0 0 1 1 0 1 1")), passing);
-    assert_eq!(check_list(&numbers("1 2 1 2 1 0")), passing);
+    assert_eq!(
+        check_list(&numbers("1 4 2 2 2 0 0 0 1 1 0 1 1")),
+        passing(1)
+    );
+    assert_eq!(check_list(&numbers("1 2 1 2 1 0")), passing(0));
     let uneven = TableCheck {
         verdict: Err(refusal(4, &[1, 2, 0, 3])),
         gap: 0,
+        pairs: 0,
     };
     assert_eq!(check_list(&numbers("1 4 2 2 2 0 0 0 1 1 0 1 0")), uneven);
 }
@@ -195,8 +197,8 @@ struct Counted {
 }
 
 impl Counted {
-    fn count(&mut self, table: &Table, numbers: [i64; 8]) {
-        let [5, _, a, b, x, y, _, gap] = numbers else {
+    fn count(&mut self, table: &Table, numbers: [i64; 9]) {
+        let [5, _, a, b, x, y, _, gap, _] = numbers else {
             return;
         };
         self.refused += 1;
@@ -372,6 +374,7 @@ fn names_of_levels_and_turn_of_columns() {
         let of_renamed = checked(&renamed);
         assert_eq!(of_renamed[..4], numbers[..4]);
         assert_eq!(of_renamed[7].abs(), numbers[7].abs());
+        assert_eq!(of_renamed[8], numbers[8]);
 
         // The two columns alone.
         let two = |columns: [i64; 2]| {
@@ -385,7 +388,8 @@ fn names_of_levels_and_turn_of_columns() {
         };
         let [a, b] = [numbers[2], numbers[3]];
         let alone = checked(&two([a, b]));
-        assert_eq!(alone[4..], numbers[4..]);
+        assert_eq!(alone[4..8], numbers[4..8]);
+        assert_eq!(alone[8], 1);
         assert_eq!(checked(&two([b, a]))[7].abs(), numbers[7].abs());
     }
 }
@@ -402,14 +406,14 @@ fn the_largest_and_the_least_gap() {
         };
         let numbers = checked(&equal);
         let [s, n] = [s, n].map(|number| number as i64);
-        assert_eq!(numbers, [5, 1, 1, 2, 0, 0, n / s, n * (s - 1)]);
+        assert_eq!(numbers, [5, 1, 1, 2, 0, 0, n / s, n * (s - 1), 1]);
     }
     for n in [2, 4, 6, 510, 512] {
         let opposite = Table {
             levels: vec![2; 2],
             runs: (0..n).map(|run| vec![run % 2, 1 - run % 2]).collect(),
         };
-        assert_eq!(checked(&opposite), [5, 1, 1, 2, 0, 0, 0, -(n as i64)]);
+        assert_eq!(checked(&opposite), [5, 1, 1, 2, 0, 0, 0, -(n as i64), 1]);
     }
 }
 
@@ -417,7 +421,7 @@ fn the_largest_and_the_least_gap() {
 /// of the other sign, and one of the same.
 #[test]
 fn pairs_as_far_off() {
-    let farthest = |counts: &[Vec<usize>]| checked(&of_counts(counts))[4..].to_vec();
+    let farthest = |counts: &[Vec<usize>]| checked(&of_counts(counts))[4..8].to_vec();
     let short = vec![4, 2, 3];
     let over = vec![2, 4, 3];
     assert_eq!(
@@ -511,7 +515,7 @@ fn allowed(before: &str, number: u16) -> bool {
     let mut list = numbers(before);
     let place = list.len() as i64;
     list.push(number);
-    let [2, at, 0, 0, 0, 0, 0, 0] = numbers_of(&list) else {
+    let [2, at, 0, 0, 0, 0, 0, 0, 0] = numbers_of(&list) else {
         panic!("{list:?}")
     };
     assert!(at == place || at == place + 1);
@@ -535,14 +539,14 @@ fn numbers_in_their_limits() {
 #[test]
 fn lists_that_run_out_or_have_a_number_left_over() {
     let whole = numbers("1 6 2 3 2 0 0 0 1 1 0 1 1 2 0 2 1");
-    assert_eq!(numbers_of(&whole), [0; 8]);
+    assert_eq!(numbers_of(&whole), [0, 0, 0, 0, 0, 0, 0, 0, 1]);
     for length in 0..whole.len() {
         let place = length as i64;
         assert_eq!(numbers_of(&whole[..length])[..3], [2, place, 0]);
     }
     for left_over in [&[0][..], &[1], &[65_535], &[1, 1, 1]] {
         let longer = [&whole, left_over].concat();
-        assert_eq!(numbers_of(&longer), [2, 17, 0, 0, 0, 0, 0, 0]);
+        assert_eq!(numbers_of(&longer), [2, 17, 0, 0, 0, 0, 0, 0, 0]);
     }
 }
 
@@ -554,18 +558,19 @@ fn lists_of_32768_numbers_and_one_more() {
         let run = |run| (1..=columns).map(|number| parity(run, number)).collect();
         table(&vec![2; columns], &Vec::from_iter((0..runs).map(run)))
     };
-    assert_eq!(numbers_of(&sheet(512, 63)), [0; 8]);
-    assert_eq!(numbers_of(&sheet(256, 127)), [0; 8]);
+    let passes = |pairs: i64| [0, 0, 0, 0, 0, 0, 0, 0, pairs];
+    assert_eq!(numbers_of(&sheet(512, 63)), passes(1_953));
+    assert_eq!(numbers_of(&sheet(256, 127)), passes(8_001));
     let odd = sheet(255, 128);
     assert_eq!(odd.len(), 32_771);
-    assert_eq!(numbers_of(&odd), [2, 32_768, 0, 0, 0, 0, 0, 0]);
+    assert_eq!(numbers_of(&odd), [2, 32_768, 0, 0, 0, 0, 0, 0, 0]);
     // At the most that there are, a number is left over.
     let mut list = sheet(512, 63);
     let length = list.len() as i64;
     list.resize(32_768, 0);
-    assert_eq!(numbers_of(&list), [2, length, 0, 0, 0, 0, 0, 0]);
+    assert_eq!(numbers_of(&list), [2, length, 0, 0, 0, 0, 0, 0, 0]);
     list.push(0);
-    assert_eq!(numbers_of(&list), [2, 32_768, 0, 0, 0, 0, 0, 0]);
+    assert_eq!(numbers_of(&list), [2, 32_768, 0, 0, 0, 0, 0, 0, 0]);
     // Before any reading.
     assert_eq!(numbers_of(&[7; 32_768])[..2], [2, 0]);
     assert_eq!(numbers_of(&[7; 32_769])[..2], [2, 32_768]);
@@ -588,10 +593,10 @@ fn entries_and_the_turn_of_the_questions() {
 
 #[test]
 fn words_are_read_as_those_of_an_order() {
-    let passes = "passes\ngap 0\n";
+    let passes = "passes\ngap 0\npairs 0\n";
     assert_eq!(print_check(b"1 2 1 2 0 1"), passes);
     assert_eq!(print_check(b"\n\t001 2\n1  02 0 1\n\n"), passes);
-    let unreadable = |place: usize| format!("refused 2 {place} 0 0 0 0 0\ngap 0\n");
+    let unreadable = |place: usize| format!("refused 2 {place} 0 0 0 0 0\ngap 0\npairs 0\n");
     assert_eq!(print_check(b""), unreadable(0));
     assert_eq!(print_check(b" \n"), unreadable(0));
     assert_eq!(print_check(b"1 2 1 2 0 1 0"), unreadable(6));
@@ -617,14 +622,14 @@ fn words_are_read_as_those_of_an_order() {
 fn printed_refusals_and_gaps() {
     assert_eq!(
         print_check(b"1 4 2 2 2 0 1 0 1 1 0 1 0"),
-        "refused 5 1 1 2 0 0 0\ngap -4\n"
+        "refused 5 1 1 2 0 0 0\ngap -4\npairs 1\n"
     );
     assert_eq!(
         print_check(b"1 2 1 2 0 2"),
-        "refused 3 5 0 0 0 0 0\ngap 0\n"
+        "refused 3 5 0 0 0 0 0\ngap 0\npairs 0\n"
     );
     assert_eq!(
         print_check(b"1 4 2 2 2 0 0 0 1 1 0 1 0"),
-        "refused 4 1 2 0 3 0 0\ngap 0\n"
+        "refused 4 1 2 0 3 0 0\ngap 0\npairs 0\n"
     );
 }

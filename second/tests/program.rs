@@ -98,7 +98,7 @@ fn prints_refusals_of_pages() {
 fn prints_checks() {
     assert_eq!(
         printed_check(b"1 4 2 2 2 0 0 0 0 1 1 1 1\n"),
-        "refused 5 1 1 2 0 0 2\ngap 4\n"
+        "refused 5 1 1 2 0 0 2\ngap 4\npairs 1\n"
     );
     for text in ["", "1 2 1 2 0 1", "1 2 1 2 0 2", "1 2 2 2 2 0 1 1 0", "2 x"] {
         let text = text.as_bytes();
@@ -112,7 +112,7 @@ fn prints_answers_of_table_calls() {
     let printed = output(env!("CARGO_BIN_EXE_table_answers"), &[], calls);
     assert_eq!(
         printed,
-        "2 0 0 0 0 0 0 0\n2 5 0 0 0 0 0 0\n0 0 0 0 0 0 0 0\n5 1 1 2 0 0 0 -2\n"
+        "2 0 0 0 0 0 0 0 0\n2 5 0 0 0 0 0 0 0\n0 0 0 0 0 0 0 0 0\n5 1 1 2 0 0 0 -2 1\n"
     );
     let stored = output(env!("CARGO_BIN_EXE_table_calls"), &[], b"");
     assert_eq!(stored, table_calls::stored());

@@ -372,7 +372,7 @@ fn uneven_tables_are_answered_as_they_are_checked() {
         let named = |record: &&Record| record.name == Some(&format!("gaps: {name}"));
         records.iter().find(named).expect(name).answer[0]
     };
-    for (name, [number, details @ .., _]) in GAPS {
+    for (name, [number, details @ .., _gap, _pairs]) in GAPS {
         let details: Vec<String> = details.iter().map(i64::to_string).collect();
         let refused = format!("refused {number} {}", details.join(" "));
         assert_eq!(answer(name), refused, "{name}");

@@ -4,9 +4,10 @@ mod common;
 use common::*;
 use second::checker::{check_list, print_check};
 use second::order::read_table;
+use second::pair_tables::pair_tables;
 use second::table_calls::{answers, numbers as numbers_of, read, stored};
 use second::{level_pairs, LevelPair};
-use std::collections::BTreeMap;
+use std::collections::{BTreeMap, BTreeSet};
 
 /// A limit of the program that reads them.
 const MOST_WORDS: usize = 32_768;
@@ -57,8 +58,8 @@ fn calls_are_a_line_each_in_plain_numbers() {
     }
 }
 
-/// The eight numbers of each answer, as a reader of the text takes them.
-fn numbers_of_answers() -> Vec<[i64; 8]> {
+/// The nine numbers of each answer, as a reader of the text takes them.
+fn numbers_of_answers() -> Vec<[i64; 9]> {
     let number = |word: &str| {
         let number: i64 = word.parse().unwrap();
         assert_eq!(number.to_string(), word);
@@ -66,7 +67,7 @@ fn numbers_of_answers() -> Vec<[i64; 8]> {
     };
     let line = |line: &str| {
         let numbers: Vec<i64> = line.split(' ').map(number).collect();
-        <[i64; 8]>::try_from(numbers).expect("eight numbers to a line")
+        <[i64; 9]>::try_from(numbers).expect("nine numbers to a line")
     };
     let text = stored_answers();
     assert!(text.ends_with('\n'));
@@ -74,7 +75,7 @@ fn numbers_of_answers() -> Vec<[i64; 8]> {
 }
 
 #[test]
-fn answers_are_eight_numbers_each() {
+fn answers_are_nine_numbers_each() {
     let calls = read(stored_calls().as_bytes());
     let answers = numbers_of_answers();
     assert_eq!(calls.len(), answers.len());
@@ -102,13 +103,61 @@ fn the_tables_with_names_are_among_them() {
     }
 }
 
+/// Each with the answer that was counted by hand for it.
+#[test]
+fn tables_that_show_the_pairs_counted_are_among_them() {
+    let calls = read(stored_calls().as_bytes());
+    let answers = numbers_of_answers();
+    for ((name, table), (_, wanted)) in pair_tables().iter().zip(PAIRS) {
+        let list = list_of(table);
+        let place = calls.iter().position(|call| *call == list).expect(name);
+        assert_eq!(answers[place], wanted, "{name}");
+    }
+}
+
+/// The pairs counted: those of a pass and of refusal 5 with few columns and with many, the failing pair
+/// first, in between and last, and none after the other refusals.
+#[test]
+fn pairs_counted_of_every_kind_are_among_them() {
+    let calls = read(stored_calls().as_bytes());
+    let mut times: BTreeMap<&str, usize> = BTreeMap::new();
+    let mut passing_columns = BTreeSet::new();
+    for (call, answer) in calls.iter().zip(numbers_of_answers()) {
+        let [number, _, a, b, .., pairs] = answer;
+        assert!((0..=8_128).contains(&pairs));
+        if number != 0 && number != 5 {
+            assert_eq!(pairs, 0);
+            continue;
+        }
+        let m = i64::from(call[2]);
+        if number == 0 {
+            assert_eq!(2 * pairs, m * (m - 1));
+            passing_columns.insert(m);
+            continue;
+        }
+        assert_eq!(pairs, position_of_pair(m as usize, a as usize, b as usize));
+        let place = match (a, b) {
+            _ if m == 2 => "the only pair",
+            (1, 2) => "the first pair",
+            _ if a + 1 == m => "the last pair",
+            _ if b == m => "the last with its first column",
+            _ if b == a + 1 => "the first with its first column",
+            _ => "another pair",
+        };
+        *times.entry(place).or_default() += 1;
+    }
+    assert_eq!(Vec::from_iter(passing_columns), [1, 2, 3, 4, 5, 63]);
+    assert_eq!(times.len(), 6, "{times:?}");
+    assert!(times.values().all(|&times| times >= 3), "{times:?}");
+}
+
 /// Short and over, the lowest uneven pair and another, alone and with one as far off of either sign.
 #[test]
 fn refusal_5_names_every_kind_of_pair() {
     let calls = read(stored_calls().as_bytes());
     let mut times: BTreeMap<(&str, &str), usize> = BTreeMap::new();
     for (call, answer) in calls.iter().zip(numbers_of_answers()) {
-        let [5, _, a, b, x, y, _, gap] = answer else {
+        let [5, _, a, b, x, y, _, gap, _] = answer else {
             continue;
         };
         let (table, _) = read_table(call).unwrap();
@@ -167,8 +216,10 @@ fn stored_check_is_that_made() {
     let printed = stored_file("crates/checker/stdout");
     assert_same(&printed, &print_check(text.as_bytes()));
     assert!(printed.starts_with("refused 5 1 ") && printed.contains("\ngap -"));
+    // Of 8 columns 2 and 8 are uneven: 1-2 to 1-8 are 7 pairs, and 2-3 to 2-8 are 6.
+    assert!(printed.ends_with("\npairs 13\n"));
     let list = numbers(&text);
-    let [_, _, a, b, x, y, _, _] = numbers_of(&check_list(&list));
+    let [_, _, a, b, x, y, _, _, _] = numbers_of(&check_list(&list));
     let (table, _) = read_table(&list).unwrap();
     let uneven = level_pairs(&table, a as usize - 1, b as usize - 1).find(|pair| pair.gap != 0);
     let lowest = uneven.map(|pair| (pair.x as i64, pair.y as i64));

@@ -1,4 +1,5 @@
-//! Reads a table from standard input and prints whether it passes, or its refusal, and its gap.
+//! Reads a table from standard input and prints whether it passes, or its refusal, then its gap and how
+//! many pairs of columns were counted.
 
 #![forbid(unsafe_code)]
 

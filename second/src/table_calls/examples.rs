@@ -1,9 +1,10 @@
-//! Calls at both sides of each limit of a table, each refusal, and the tables that show which pair
-//! refusal 5 names.
+//! Calls at both sides of each limit of a table, each refusal, the tables that show which pair refusal 5
+//! names, and those that show how many pairs of columns are counted.
 
 use crate::gap_tables::gap_tables;
 use crate::maker::{plain, table_numbers};
 use crate::order::Table;
+use crate::pair_tables::pair_tables;
 
 /// All examples, in the order in which they are stored.
 pub fn examples() -> Vec<Vec<u16>> {
@@ -18,6 +19,7 @@ pub fn examples() -> Vec<Vec<u16>> {
         lengths(),
         entries_at_their_levels(),
         turn_of_refusals(),
+        listed(pair_tables().into_iter().map(|(_, table)| table)),
     ]
     .concat()
 }

@@ -2,98 +2,163 @@
 
 #![allow(dead_code)]
 
-use second::order::{read, Step};
+use second::order::{read, Step, Table};
 use second::{plan, Answer};
 
-/// What the tables of `gap_tables` come to, counted by hand: number, six details and gap.
-pub const GAPS: [(&str, [i64; 8]); 26] = [
-    ("2 runs, equal columns", [5, 1, 1, 2, 0, 0, 1, 2]),
-    ("4 runs, equal columns", [5, 1, 1, 2, 0, 0, 2, 4]),
-    ("4 runs, opposite columns", [5, 1, 1, 2, 0, 0, 0, -4]),
+/// What the tables of `gap_tables` come to, counted by hand: number, six details, gap and pairs. Of 63
+/// columns the last two are pair 63 × 62 ÷ 2, and of 29 columns pair 29 × 28 ÷ 2.
+pub const GAPS: [(&str, [i64; 9]); 26] = [
+    ("2 runs, equal columns", [5, 1, 1, 2, 0, 0, 1, 2, 1]),
+    ("4 runs, equal columns", [5, 1, 1, 2, 0, 0, 2, 4, 1]),
+    ("4 runs, opposite columns", [5, 1, 1, 2, 0, 0, 0, -4, 1]),
     (
         "6 runs, 2 levels each, short by half a run",
-        [5, 1, 1, 2, 0, 0, 1, -2],
+        [5, 1, 1, 2, 0, 0, 1, -2, 1],
     ),
     (
         "6 runs, 2 levels each, over by half a run",
-        [5, 1, 1, 2, 0, 0, 2, 2],
+        [5, 1, 1, 2, 0, 0, 2, 2, 1],
     ),
     (
         "27 runs, a short pair before an over one as far off",
-        [5, 1, 1, 2, 1, 0, 1, -18],
+        [5, 1, 1, 2, 1, 0, 1, -18, 1],
     ),
     (
         "27 runs, an over pair before a short one as far off",
-        [5, 1, 1, 2, 1, 0, 5, 18],
+        [5, 1, 1, 2, 1, 0, 5, 18, 1],
     ),
     (
         "27 runs, three short pairs as far off, the first column's level leading",
-        [5, 1, 1, 2, 0, 2, 1, -18],
+        [5, 1, 1, 2, 0, 2, 1, -18, 1],
     ),
     (
         "27 runs, the last pair short and farthest off",
-        [5, 1, 1, 2, 2, 2, 1, -18],
+        [5, 1, 1, 2, 2, 2, 1, -18, 1],
     ),
     (
         "18 runs, the last pair over and farthest off",
-        [5, 1, 1, 2, 2, 2, 4, 18],
+        [5, 1, 1, 2, 2, 2, 4, 18, 1],
     ),
-    ("18 runs, times 0 farthest off", [5, 1, 1, 2, 2, 1, 0, -18]),
+    (
+        "18 runs, times 0 farthest off",
+        [5, 1, 1, 2, 2, 1, 0, -18, 1],
+    ),
     (
         "9 runs, times 0 before an over pair as far off",
-        [5, 1, 1, 2, 0, 1, 0, -9],
+        [5, 1, 1, 2, 0, 1, 0, -9, 1],
     ),
     (
         "9 runs, an over pair before times 0 as far off",
-        [5, 1, 1, 2, 0, 1, 2, 9],
+        [5, 1, 1, 2, 0, 1, 2, 9, 1],
     ),
-    ("12 runs, 2 and 3 levels", [5, 1, 1, 2, 0, 2, 4, 12]),
-    ("12 runs, 3 and 2 levels", [5, 1, 1, 2, 2, 0, 0, -12]),
+    ("12 runs, 2 and 3 levels", [5, 1, 1, 2, 0, 2, 4, 12, 1]),
+    ("12 runs, 3 and 2 levels", [5, 1, 1, 2, 2, 0, 0, -12, 1]),
     (
         "12 runs, 4 and 6 levels, one pair twice",
-        [5, 1, 1, 2, 2, 3, 2, 36],
+        [5, 1, 1, 2, 2, 3, 2, 36, 1],
     ),
     (
         "12 runs, 4 and 6 levels, no pair twice",
-        [5, 1, 1, 2, 0, 0, 0, -12],
+        [5, 1, 1, 2, 0, 0, 0, -12, 1],
     ),
     (
         "512 runs, 64 levels each, equal columns",
-        [5, 1, 1, 2, 0, 0, 8, 32_256],
+        [5, 1, 1, 2, 0, 0, 8, 32_256, 1],
     ),
     (
         "512 runs, 64 levels each, each pair once or never",
-        [5, 1, 1, 2, 0, 1, 1, 3_584],
+        [5, 1, 1, 2, 0, 1, 1, 3_584, 1],
     ),
     (
         "512 runs, 64 levels each, the last pair farthest off",
-        [5, 1, 1, 2, 63, 63, 8, 32_256],
+        [5, 1, 1, 2, 63, 63, 8, 32_256, 1],
     ),
     (
         "512 runs, 2 levels each, opposite columns",
-        [5, 1, 1, 2, 0, 0, 0, -512],
+        [5, 1, 1, 2, 0, 0, 0, -512, 1],
     ),
     (
         "18 runs, columns 1 and 2 a little, 1 and 3 much",
-        [5, 1, 1, 2, 0, 1, 3, 9],
+        [5, 1, 1, 2, 0, 1, 3, 9, 1],
     ),
     (
         "18 runs, columns 1 and 2 even, 1 and 3 a little, 2 and 3 much",
-        [5, 1, 1, 3, 1, 0, 0, -18],
+        [5, 1, 1, 3, 1, 0, 0, -18, 2],
     ),
     (
         "4 runs, columns 1 and 2 equal, column 3 uneven",
-        [4, 1, 3, 0, 1, 0, 0, 0],
+        [4, 1, 3, 0, 1, 0, 0, 0, 0],
     ),
     (
         "64 runs of 63 columns, the last two equal",
-        [5, 1, 62, 63, 0, 0, 32, 64],
+        [5, 1, 62, 63, 0, 0, 32, 64, 1_953],
     ),
     (
         "81 runs of 29 columns, the last two uneven",
-        [5, 1, 28, 29, 1, 0, 18, 81],
+        [5, 1, 28, 29, 1, 0, 18, 81, 406],
     ),
 ];
+
+/// What the tables of `pair_tables` come to, counted by hand: number, six details, gap and pairs. Two
+/// equal columns of 2 levels have levels 0 and 0 in half of the runs, where a quarter would be even.
+pub const PAIRS: [(&str, [i64; 9]); 30] = [
+    ("1 column", [0, 0, 0, 0, 0, 0, 0, 0, 0]),
+    ("2 columns, all even", [0, 0, 0, 0, 0, 0, 0, 0, 1]),
+    ("3 columns, all even", [0, 0, 0, 0, 0, 0, 0, 0, 3]),
+    ("4 columns, all even", [0, 0, 0, 0, 0, 0, 0, 0, 6]),
+    ("5 columns, all even", [0, 0, 0, 0, 0, 0, 0, 0, 10]),
+    ("63 columns, all even", [0, 0, 0, 0, 0, 0, 0, 0, 1_953]),
+    ("2 columns, 1-2 uneven", [5, 1, 1, 2, 0, 0, 1, 2, 1]),
+    ("3 columns, 1-2 uneven", [5, 1, 1, 2, 0, 0, 2, 4, 1]),
+    ("3 columns, 1-3 uneven", [5, 1, 1, 3, 0, 0, 2, 4, 2]),
+    ("3 columns, 2-3 uneven", [5, 1, 2, 3, 0, 0, 2, 4, 3]),
+    ("4 columns, 1-2 uneven", [5, 1, 1, 2, 0, 0, 2, 4, 1]),
+    ("4 columns, 1-3 uneven", [5, 1, 1, 3, 0, 0, 2, 4, 2]),
+    ("4 columns, 1-4 uneven", [5, 1, 1, 4, 0, 0, 2, 4, 3]),
+    ("4 columns, 2-3 uneven", [5, 1, 2, 3, 0, 0, 2, 4, 4]),
+    ("4 columns, 2-4 uneven", [5, 1, 2, 4, 0, 0, 2, 4, 5]),
+    ("4 columns, 3-4 uneven", [5, 1, 3, 4, 0, 0, 2, 4, 6]),
+    ("5 columns, 1-2 uneven", [5, 1, 1, 2, 0, 0, 4, 8, 1]),
+    ("5 columns, 1-3 uneven", [5, 1, 1, 3, 0, 0, 4, 8, 2]),
+    ("5 columns, 1-4 uneven", [5, 1, 1, 4, 0, 0, 4, 8, 3]),
+    ("5 columns, 1-5 uneven", [5, 1, 1, 5, 0, 0, 4, 8, 4]),
+    ("5 columns, 2-3 uneven", [5, 1, 2, 3, 0, 0, 4, 8, 5]),
+    ("5 columns, 2-4 uneven", [5, 1, 2, 4, 0, 0, 4, 8, 6]),
+    ("5 columns, 2-5 uneven", [5, 1, 2, 5, 0, 0, 4, 8, 7]),
+    ("5 columns, 3-4 uneven", [5, 1, 3, 4, 0, 0, 4, 8, 8]),
+    ("5 columns, 3-5 uneven", [5, 1, 3, 5, 0, 0, 4, 8, 9]),
+    ("5 columns, 4-5 uneven", [5, 1, 4, 5, 0, 0, 4, 8, 10]),
+    ("4 columns, 1-4 and 2-3 uneven", [5, 1, 1, 4, 0, 0, 2, 4, 3]),
+    ("5 columns, 2-5 and 3-4 uneven", [5, 1, 2, 5, 0, 0, 2, 4, 7]),
+    // 1-2 to 1-128 are 127 pairs, and 2-3 is the next.
+    (
+        "128 columns, all equal but column 1",
+        [5, 1, 2, 3, 0, 0, 2, 4, 128],
+    ),
+    (
+        "128 columns, all equal but column 128, which is uneven",
+        [4, 1, 128, 0, 2, 0, 0, 0, 0],
+    ),
+];
+
+/// All pairs of m columns, which count from 1, as they are written down: 1-2, 1-3, .., then 2-3, and so
+/// on.
+pub fn pairs_in_order(m: usize) -> Vec<(usize, usize)> {
+    let mut written = Vec::new();
+    for first in 1..=m {
+        for second in first + 1..=m {
+            written.push((first, second));
+        }
+    }
+    written
+}
+
+/// Where two of m columns stand among all pairs as they are written down, from 1.
+pub fn position_of_pair(m: usize, first: usize, second: usize) -> i64 {
+    let written = pairs_in_order(m);
+    let place = written.iter().position(|&pair| pair == (first, second));
+    place.unwrap() as i64 + 1
+}
 
 /// The numbers of a text.
 pub fn numbers(text: &str) -> Vec<u16> {
@@ -214,6 +279,13 @@ pub fn table(levels: &[u16], runs: &[Vec<u16>]) -> Vec<u16> {
     list.extend(levels);
     list.extend(runs.concat());
     list
+}
+
+/// The list that writes a table.
+pub fn list_of(sheet: &Table) -> Vec<u16> {
+    let numbers = |list: &[usize]| -> Vec<u16> { list.iter().map(|&n| n as u16).collect() };
+    let runs: Vec<Vec<u16>> = sheet.runs.iter().map(|run| numbers(run)).collect();
+    table(&numbers(&sheet.levels), &runs)
 }
 
 /// A generator over two elements whose factors are the points 1 to n, in base 2, first coordinate
