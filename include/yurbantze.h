@@ -151,19 +151,23 @@ size_t yurbantze_charge(
  * gap                      Room for one signed number, which is written by every call. Refused as 5: s * t * times - runs, where s and t are the level
  *                          counts of the two columns, below zero where the pair of levels is short and above where it is over; no other pair of
  *                          levels of the two columns is farther from 0. In every other case: 0.
+ * pairs                    Room for one number, which is written by every call: how many pairs of columns were counted. Passes: columns * (columns - 1) / 2,
+ *                          and so 0 for one column. Refused as 5: the position of the two columns named, from 1, in the order 1-2, 1-3, .., then 2-3, and
+ *                          so on. Refused as 2, 3 or 4: 0. It is never above 8,128, which 128 columns have.
  *
- * What answer and gap hold before the call does not matter: what is written depends on the list alone.
+ * What answer, gap and pairs hold before the call does not matter: what is written depends on the list alone.
  *
  * What a caller owes: no pointer is null, not even that of a list of length 0. list points to as many numbers as its length says, all of which have
- * been written, whatever they are, answer to seven and gap to one; all are aligned for their types. Nothing else reads or writes answer and gap, or writes
- * the list, during the call, and none of the three lies over another.
+ * been written, whatever they are, answer to seven, gap to one and pairs to one; all are aligned for their types. Nothing else reads or writes answer, gap
+ * and pairs, or writes the list, during the call, and none of the four lies over another.
  *
  * The function is lent no buffers and allocates nothing, but needs up to 90,000 bytes of stack. It keeps nothing between calls, so several threads may
- * call it, each with an answer and a gap of its own. */
+ * call it, each with an answer, a gap and pairs of its own. */
 size_t yurbantze_check_table(
     const uint16_t *list, size_t list_length,
     size_t answer[YURBANTZE_ANSWER_LENGTH],
-    int64_t *gap);
+    int64_t *gap,
+    size_t *pairs);
 
 #ifdef __cplusplus
 }

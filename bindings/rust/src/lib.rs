@@ -52,7 +52,7 @@ extern "C" {
         charge: *mut u64,
     ) -> usize;
 
-    fn yurbantze_check_table(list: *const u16, list_length: usize, answer: *mut [usize; 7], gap: *mut i64) -> usize;
+    fn yurbantze_check_table(list: *const u16, list_length: usize, answer: *mut [usize; 7], gap: *mut i64, pairs: *mut usize) -> usize;
 }
 
 /// A run table: in any two columns with s and t levels each pair of levels stands in exactly runs ÷ (s × t) runs, and in each column each level in
@@ -388,6 +388,9 @@ pub struct TableCheck {
     /// After `UnevenPair`, s × t × times less the number of runs, where s and t are the level counts of the two columns: below zero where the pair of
     /// levels is short, above where it is over, and never 0. Divided by s × t it is how many runs the pair has too many. In every other case it is 0.
     pub gap: i64,
+    /// How many pairs of columns were counted: of a table of m columns that passes all m × (m − 1) ÷ 2, and after `UnevenPair` the position of its two
+    /// columns, from 1, in the order 1-2, 1-3 and so on. In every other case it is 0. It is never above 8,128, which 128 columns have.
+    pub pairs: usize,
 }
 
 /// Checks one table, written as an ingredient of an order is: 1, the number of runs, the number of columns, the level count of each column, then the
@@ -395,13 +398,14 @@ pub struct TableCheck {
 pub fn check_table(list: &[u16]) -> TableCheck {
     let mut answer = [0; 7];
     let mut gap = 0;
+    let mut pairs = 0;
     // SAFETY: the list's pointer is a reference's, with the length of its slice, and so is not null, is aligned, and points to initialised numbers; the
-    // other two are those of local variables, which nothing else borrows. The function requires nothing else, and its proof says that it reads and writes
+    // other three are those of local variables, which nothing else borrows. The function requires nothing else, and its proof says that it reads and writes
     // within those lengths.
-    let number = unsafe { yurbantze_check_table(list.as_ptr(), list.len(), &mut answer, &mut gap) };
+    let number = unsafe { yurbantze_check_table(list.as_ptr(), list.len(), &mut answer, &mut gap, &mut pairs) };
     let verdict = match number {
         0 => Ok(()),
         _ => Err(Refusal::from_numbers(answer)),
     };
-    TableCheck { verdict, gap }
+    TableCheck { verdict, gap, pairs }
 }

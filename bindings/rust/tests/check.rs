@@ -1,20 +1,23 @@
-//! Tables checked through the static library: document 02, K5.
+//! Tables checked through the static library: document 02, K5 and K8.
 use yurbantze::{check_table, plan, Refusal, TableCheck};
 
-const PASSES: TableCheck = TableCheck { verdict: Ok(()), gap: 0 };
+fn passes(pairs: usize) -> TableCheck {
+    TableCheck { verdict: Ok(()), gap: 0, pairs }
+}
 
+/// Before any pair of columns is counted.
 fn refused(refusal: Refusal) -> TableCheck {
-    TableCheck { verdict: Err(refusal), gap: 0 }
+    TableCheck { verdict: Err(refusal), gap: 0, pairs: 0 }
 }
 
 fn unreadable(place: usize) -> TableCheck {
     refused(Refusal::Unreadable { place })
 }
 
-/// Refusal 5 of columns 1 and 2.
+/// Refusal 5 of columns 1 and 2, the first pair that is counted.
 fn pair(first_level: usize, second_level: usize, times: usize, gap: i64) -> TableCheck {
     let refusal = Refusal::UnevenPair { ingredient: 1, first: 1, second: 2, first_level, second_level, times };
-    TableCheck { verdict: Err(refusal), gap }
+    TableCheck { verdict: Err(refusal), gap, pairs: 1 }
 }
 
 /// The list of a table.
@@ -45,9 +48,9 @@ fn the_example_of_document_02() {
 
 #[test]
 fn tables_that_pass() {
-    assert_eq!(check_table(&[1, 4, 3, 2, 2, 2, 0, 0, 0, 0, 1, 1, 1, 0, 1, 1, 1, 0]), PASSES);
-    assert_eq!(check_table(&[1, 2, 1, 2, 1, 0]), PASSES);
-    assert_eq!(check_table(&of_counts(&[&[2, 2, 2], &[2, 2, 2]])), PASSES);
+    assert_eq!(check_table(&[1, 2, 1, 2, 1, 0]), passes(0));
+    assert_eq!(check_table(&of_counts(&[&[2, 2, 2], &[2, 2, 2]])), passes(1));
+    assert_eq!(check_table(&[1, 4, 3, 2, 2, 2, 0, 0, 0, 0, 1, 1, 1, 0, 1, 1, 1, 0]), passes(3));
 }
 
 #[test]
@@ -81,19 +84,67 @@ fn parities(runs: u16, numbers: &[u16]) -> Vec<u16> {
     written(&vec![2; numbers.len()], &runs)
 }
 
+/// Refusal 5 of two columns of parities that have the same number: levels 0 and 0 stand together in half of the runs, where a quarter would be even.
+fn equal(first: usize, second: usize, runs: u16, pairs: usize) -> TableCheck {
+    let refusal = Refusal::UnevenPair { ingredient: 1, first, second, first_level: 0, second_level: 0, times: usize::from(runs) / 2 };
+    TableCheck { verdict: Err(refusal), gap: runs.into(), pairs }
+}
+
+#[test]
+fn each_pair_of_four_columns() {
+    let checks = |numbers: &[u16]| check_table(&parities(8, numbers));
+    assert_eq!(checks(&[1, 1, 2, 3]), equal(1, 2, 8, 1));
+    assert_eq!(checks(&[1, 2, 1, 3]), equal(1, 3, 8, 2));
+    assert_eq!(checks(&[1, 2, 3, 1]), equal(1, 4, 8, 3));
+    assert_eq!(checks(&[1, 2, 2, 3]), equal(2, 3, 8, 4));
+    assert_eq!(checks(&[1, 2, 3, 2]), equal(2, 4, 8, 5));
+    assert_eq!(checks(&[1, 2, 3, 3]), equal(3, 4, 8, 6));
+    assert_eq!(checks(&[1, 2, 3, 4]), passes(6));
+    // 1-4 comes before 2-3.
+    assert_eq!(checks(&[1, 2, 2, 1]), equal(1, 4, 8, 3));
+    // Each further column is one more pair with column 1, before 2-3.
+    assert_eq!(checks(&[1, 2, 2]), equal(2, 3, 8, 3));
+    assert_eq!(checks(&[1, 2, 2, 3, 4]), equal(2, 3, 8, 5));
+}
+
 #[test]
 fn the_last_two_of_many_columns() {
     let mut numbers: Vec<u16> = (1..=63).collect();
-    assert_eq!(check_table(&parities(512, &numbers)), PASSES);
+    // 63 × 62 ÷ 2.
+    assert_eq!(check_table(&parities(512, &numbers)), passes(1953));
     numbers[62] = 62;
-    let refusal = Refusal::UnevenPair { ingredient: 1, first: 62, second: 63, first_level: 0, second_level: 0, times: 256 };
-    assert_eq!(check_table(&parities(512, &numbers)), TableCheck { verdict: Err(refusal), gap: 512 });
+    assert_eq!(check_table(&parities(512, &numbers)), equal(62, 63, 512, 1953));
+}
+
+/// 128 columns that pass, in 132 runs: run 0 has zeros, and in each run after it a 1 stands where run and column add up to a square modulo 131, 0 among
+/// them.
+fn of_squares() -> Vec<u16> {
+    let squares: Vec<u16> = (0..131).map(|root| root * root % 131).collect();
+    let entry = |run: u16, column: u16| u16::from(squares.contains(&((run + column) % 131)));
+    let mut runs = vec![vec![0; 128]];
+    runs.extend((1..=131).map(|run| (1..=128).map(|column| entry(run, column)).collect::<Vec<u16>>()));
+    written(&[2; 128], &runs)
+}
+
+#[test]
+fn the_most_pairs() {
+    // 128 × 127 ÷ 2.
+    assert_eq!(check_table(&of_squares()), passes(8128));
+    // 128 columns in 128 runs, the second of two having the number of the first.
+    for (first, second, pairs) in [(1, 2, 1), (1, 128, 127), (2, 3, 128), (2, 128, 253), (126, 127, 8126), (126, 128, 8127), (127, 128, 8128)] {
+        let mut numbers: Vec<u16> = (1..=127).collect();
+        numbers.insert(second - 1, first as u16);
+        assert_eq!(check_table(&parities(128, &numbers)), equal(first, second, 128, pairs));
+    }
 }
 
 #[test]
 fn uneven_columns_and_entries_out_of_range() {
     let list = [1, 4, 2, 2, 2, 0, 0, 0, 1, 1, 0, 1, 0];
     assert_eq!(check_table(&list), refused(Refusal::UnevenLevel { ingredient: 1, column: 2, level: 0, times: 3 }));
+    // Columns 1 and 2 are even together, and 3 has no level 1: columns are counted before pairs.
+    let list = [1, 4, 3, 2, 2, 2, 0, 0, 0, 0, 1, 0, 1, 0, 0, 1, 1, 0];
+    assert_eq!(check_table(&list), refused(Refusal::UnevenLevel { ingredient: 1, column: 3, level: 0, times: 4 }));
     assert_eq!(check_table(&[1, 2, 1, 2, 0, 2]), refused(Refusal::EntryOutOfRange { place: 5 }));
     assert_eq!(check_table(&[1, 2, 1, 2, 65535, 2]), refused(Refusal::EntryOutOfRange { place: 4 }));
 }
@@ -132,24 +183,27 @@ fn lists_of_32768_numbers_and_more() {
     assert_eq!(check_table(&list), unreadable(end));
 }
 
-// The exported function itself: whatever answer and gap held, every number is written.
+// The exported function itself: whatever answer, gap and pairs held, every number is written.
 extern "C" {
-    fn yurbantze_check_table(list: *const u16, list_length: usize, answer: *mut [usize; 7], gap: *mut i64) -> usize;
+    fn yurbantze_check_table(list: *const u16, list_length: usize, answer: *mut [usize; 7], gap: *mut i64, pairs: *mut usize) -> usize;
 }
 
-fn numbers_and_gap(list: &[u16]) -> ([usize; 7], i64) {
-    let (mut answer, mut gap) = ([7; 7], 7);
+/// What is in answer, gap and pairs after the call.
+fn written_by_the_call(list: &[u16]) -> ([usize; 7], i64, usize) {
+    let (mut answer, mut gap, mut pairs) = ([7; 7], 7, 7);
     // SAFETY: the first pointer is that of a slice, with its length, the others are those of local variables, and none lies over another.
-    let number = unsafe { yurbantze_check_table(list.as_ptr(), list.len(), &mut answer, &mut gap) };
+    let number = unsafe { yurbantze_check_table(list.as_ptr(), list.len(), &mut answer, &mut gap, &mut pairs) };
     assert_eq!(number, answer[0]);
-    (answer, gap)
+    (answer, gap, pairs)
 }
 
 #[test]
 fn every_number_is_written_whatever_was_there() {
-    assert_eq!(numbers_and_gap(&[1, 2, 1, 2, 1, 0]), ([0; 7], 0));
-    assert_eq!(numbers_and_gap(&[]), ([2, 0, 0, 0, 0, 0, 0], 0));
-    assert_eq!(numbers_and_gap(&[1, 2, 1, 2, 1, 3]), ([3, 5, 0, 0, 0, 0, 0], 0));
-    assert_eq!(numbers_and_gap(&[1, 2, 1, 2, 1, 1]), ([4, 1, 1, 0, 0, 0, 0], 0));
-    assert_eq!(numbers_and_gap(&[1, 2, 2, 2, 2, 0, 1, 1, 0]), ([5, 1, 1, 2, 0, 0, 0], -2));
+    assert_eq!(written_by_the_call(&[1, 2, 1, 2, 1, 0]), ([0; 7], 0, 0));
+    assert_eq!(written_by_the_call(&parities(8, &[1, 2, 3, 4])), ([0; 7], 0, 6));
+    assert_eq!(written_by_the_call(&[]), ([2, 0, 0, 0, 0, 0, 0], 0, 0));
+    assert_eq!(written_by_the_call(&[1, 2, 1, 2, 1, 3]), ([3, 5, 0, 0, 0, 0, 0], 0, 0));
+    assert_eq!(written_by_the_call(&[1, 2, 1, 2, 1, 1]), ([4, 1, 1, 0, 0, 0, 0], 0, 0));
+    assert_eq!(written_by_the_call(&[1, 2, 2, 2, 2, 0, 1, 1, 0]), ([5, 1, 1, 2, 0, 0, 0], -2, 1));
+    assert_eq!(written_by_the_call(&parities(8, &[1, 2, 2, 3])), ([5, 1, 2, 3, 0, 0, 4], 8, 4));
 }
