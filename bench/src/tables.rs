@@ -11,9 +11,9 @@ pub struct TableCase {
 }
 
 impl TableCase {
-    /// A table, with the numbers and the gap that it must have.
-    fn of(name: &str, list: Vec<u16>, numbers: [usize; 7], gap: i64) -> TableCase {
-        assert_eq!(plain(&list), Checked { numbers, gap }, "{name}");
+    /// A table, with what its check must answer.
+    fn of(name: &str, list: Vec<u16>, wanted: Checked) -> TableCase {
+        assert_eq!(plain(&list), wanted, "{name}");
         TableCase {
             name: name.to_string(),
             lists: vec![list],
@@ -23,31 +23,51 @@ impl TableCase {
 
 /// All cases, in the order in which they are printed.
 pub fn table_cases() -> Vec<TableCase> {
-    let (passes, last_pair) = ([0; 7], [5, 1, 62, 63, 0, 0, 256]);
-    let (tall, wide) = (parity_table(512, 1..=63), parity_table(256, 1..=127));
-    let first_pair = [5, 1, 1, 2, 63, 63, 8];
     vec![
-        TableCase::of("512 runs and 63 columns, passing", tall, passes, 0),
-        TableCase::of("256 runs and 127 columns, passing", wide, passes, 0),
+        TableCase::of(
+            "512 runs and 63 columns, passing",
+            parity_table(512, 1..=63),
+            Checked::passes(1_953),
+        ),
+        TableCase::of(
+            "256 runs and 127 columns, passing",
+            parity_table(256, 1..=127),
+            Checked::passes(8_001),
+        ),
         TableCase::of(
             "512 runs and 63 columns, last pair",
-            last_two_equal(),
-            last_pair,
-            512,
+            last_two_equal(512, 63),
+            Checked {
+                numbers: [5, 1, 62, 63, 0, 0, 256],
+                gap: 512,
+                pairs: 1_953,
+            },
+        ),
+        TableCase::of(
+            "128 runs and 128 columns, last pair",
+            last_two_equal(128, 128),
+            Checked {
+                numbers: [5, 1, 127, 128, 0, 0, 64],
+                gap: 128,
+                pairs: 8_128,
+            },
         ),
         TableCase::of(
             "512 runs, 64 and 64 levels, first pair",
             most_levels(),
-            first_pair,
-            32_256,
+            Checked {
+                numbers: [5, 1, 1, 2, 63, 63, 8],
+                gap: 32_256,
+                pairs: 1,
+            },
         ),
         small_tables(),
     ]
 }
 
-/// Its last two columns are equal.
-fn last_two_equal() -> Vec<u16> {
-    parity_table(512, (1..=62).chain([62]))
+/// Its last two columns are equal, and no others.
+fn last_two_equal(runs: usize, columns: usize) -> Vec<u16> {
+    parity_table(runs, (1..columns).chain([columns - 1]))
 }
 
 /// 512 runs of two columns with 64 levels. Levels 63 and 63 stand together in eight runs, and are the

@@ -1,7 +1,8 @@
 //! What a later request could gain: the pairs of two-level columns counted by the ones in the two
 //! columns' common bits. All else is as in `fast`.
 
-use super::count::{pairs, NotWritten, TableFault};
+use super::count::{pairs, NotWritten};
+use crate::checkers::Checked;
 use crate::planners::{Buffers, Outcome};
 
 pub fn plan(list: &[u16], buffers: &mut Buffers) -> Option<Outcome> {
@@ -10,11 +11,7 @@ pub fn plan(list: &[u16], buffers: &mut Buffers) -> Option<Outcome> {
 
 /// In a column with as many ones as zeros, and in two such columns, the lowest levels fail if any do.
 /// In two columns all four pairs are as far off then (02, K5).
-fn check_table(
-    number: usize,
-    levels: &[u16],
-    columns: &[&[u8]],
-) -> Result<Option<TableFault>, NotWritten> {
+fn check_table(number: usize, levels: &[u16], columns: &[&[u8]]) -> Result<Checked, NotWritten> {
     if levels.iter().any(|&level| level != 2) {
         return Err(NotWritten);
     }
@@ -23,19 +20,22 @@ fn check_table(
     for (a, column) in packed.iter().enumerate() {
         let ones = common_ones(column, column);
         if 2 * ones != runs {
-            let numbers = [4, number, a + 1, 0, runs - ones, 0, 0];
-            return Ok(Some(TableFault { numbers, gap: 0 }));
+            return Ok(Checked::refused([4, number, a + 1, 0, runs - ones, 0, 0]));
         }
     }
+    let mut counted_pairs = 0;
     for (a, b) in pairs(packed.len()) {
+        counted_pairs += 1;
         let ones = common_ones(&packed[a], &packed[b]);
         if 4 * ones != runs {
-            let numbers = [5, number, a + 1, b + 1, 0, 0, ones];
-            let gap = 4 * ones as i64 - runs as i64;
-            return Ok(Some(TableFault { numbers, gap }));
+            return Ok(Checked {
+                numbers: [5, number, a + 1, b + 1, 0, 0, ones],
+                gap: 4 * ones as i64 - runs as i64,
+                pairs: counted_pairs,
+            });
         }
     }
-    Ok(None)
+    Ok(Checked::passes(counted_pairs))
 }
 
 /// Sixty-four runs to a word.

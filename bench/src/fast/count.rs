@@ -4,21 +4,15 @@
 use super::nine;
 use super::read::{Ingredient, Shape};
 use super::Stop;
-use crate::planners::Numbers;
+use crate::checkers::Checked;
 use std::mem::take;
 
 /// Counters by key, zeros between uses.
 type Counters = [u16; 4_096];
 
-/// The refusal of a table, and its gap; 02, K5.
-pub struct TableFault {
-    pub numbers: Numbers,
-    pub gap: i64,
-}
-
 /// The check of an ingredient's table by its number, level counts and columns. It may be written for
 /// some tables alone.
-pub type TableCheck = fn(usize, &[u16], &[&[u8]]) -> Result<Option<TableFault>, NotWritten>;
+pub type TableCheck = fn(usize, &[u16], &[&[u8]]) -> Result<Checked, NotWritten>;
 
 pub struct NotWritten;
 
@@ -33,8 +27,8 @@ pub fn check(
         Shape::Table { levels } => {
             let columns = laid_out(entries, levels.len(), scratch);
             match check_table(number, levels, &columns) {
-                Ok(None) => Ok(()),
-                Ok(Some(fault)) => Err(Stop::Refused(fault.numbers)),
+                Ok(checked) if checked.numbers[0] == 0 => Ok(()),
+                Ok(checked) => Err(Stop::Refused(checked.numbers)),
                 Err(NotWritten) => Err(Stop::NotWritten),
             }
         }
@@ -59,26 +53,31 @@ pub fn laid_out<'a>(entries: &[u16], columns: usize, scratch: &'a mut [u8]) -> V
     (0..columns).map(lay_out).collect()
 }
 
-pub fn check_table(number: usize, levels: &[u16], columns: &[&[u8]]) -> Option<TableFault> {
+/// 02, K8: the pairs of columns are counted as they are gone through.
+pub fn check_table(number: usize, levels: &[u16], columns: &[&[u8]]) -> Checked {
     let mut counters = [0; 4_096];
     for (a, column) in columns.iter().enumerate() {
         let keys = column.iter().map(|&x| usize::from(x));
         if let Some((x, times)) = deviation(keys, levels[a].into(), column.len(), &mut counters) {
-            let numbers = [4, number, a + 1, x, times, 0, 0];
-            return Some(TableFault { numbers, gap: 0 });
+            return Checked::refused([4, number, a + 1, x, times, 0, 0]);
         }
     }
+    let mut counted_pairs = 0;
     for (a, b) in pairs(columns.len()) {
+        counted_pairs += 1;
         let (s, t) = (usize::from(levels[a]), usize::from(levels[b]));
         let runs = columns[a].iter().zip(columns[b]);
         let keys = runs.map(|(&x, &y)| usize::from(x) * t + usize::from(y));
         if let Some(lowest) = deviation(keys, s * t, columns[a].len(), &mut counters) {
             let (key, times, gap) = farthest(lowest, s * t, columns[a].len(), &counters);
-            let numbers = [5, number, a + 1, b + 1, key / t, key % t, times];
-            return Some(TableFault { numbers, gap });
+            return Checked {
+                numbers: [5, number, a + 1, b + 1, key / t, key % t, times],
+                gap,
+                pairs: counted_pairs,
+            };
         }
     }
-    None
+    Checked::passes(counted_pairs)
 }
 
 /// 02, K2: the differences are those of the field for 4, 8 and 9, and modulo p for every other p.
