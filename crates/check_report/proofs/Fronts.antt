@@ -11,7 +11,6 @@ use mir.Syntax.{w64}
 use mir.Val.{SFits}
 use Rattle.buffers.specs.Put.{Put}
 use Rattle.buffers.proofs.Puts.{put-join, put-length}
-use Rattle.decimals.specs.Decimals.{signedDigits}
 use Rattle.decimals.proofs.Signed.{signed-word}
 use Rattle.written_table.specs.declared.TableCheck.{TableCheck}
 use Rattle.check_report.specs.CheckReport.{passingLine, gapLine, pairsLine, checkPrinted, checkRoom}

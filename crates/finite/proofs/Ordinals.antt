@@ -1,21 +1,20 @@
 -- The place of a pair in the order of pairs (02, K8): it goes up by one along the order, from 1 to n × (n − 1) ÷ 2, and no two pairs share one.
 -- Assumes nothing.
 use mathlib.Core.Path.{_≡_, refl, sym, _∙_, ap}
-use mathlib.Core.Logic.{⊎-elim, by-cases}
+use mathlib.Core.Logic.{by-cases}
 use Prim.Native.Nat.{ℕ, zero, suc, _+_, _-_, _*_, _/_, _≤_, _<_}
 use native.Mathlib.Decide.{decLt}
 use native.Mathlib.Nat.{le-refl, le-trans, le-dest, ne-of-lt, lt-of-le-of-lt, mul-zero, mul-suc, suc-mul, mul-le-mul}
 use native.Mathlib.Numerals.{add-one}
 use native.Mathlib.Omega.{arith}
 use borrow.Author.Tests.{lt-ltb, le-ltb}
-use lib.Dec.{lit<}
 use Rattle.finite.specs.Sum.{sum}
-use Rattle.finite.specs.Pairs.{startPair, nextPair, ordinal, Ordinals}
+use Rattle.finite.specs.Pairs.{nextPair, ordinal, Ordinals}
 use Rattle.finite.specs.declared.pairs.IndexPair.{IndexPair}
 use Rattle.finite.proofs.Sums.{sum-split, sum-zero, sum-le}
 
 -- how many of the pairs of n have their first number below c
-abbrev pub pairsBefore : ℕ → ℕ → ℕ
+abbrev pairsBefore : ℕ → ℕ → ℕ
 pairsBefore n c = sum c (λ a. n - 1 - a)
 
 -- those of c itself come after them
@@ -29,7 +28,7 @@ twice-before n zero h = rw mul-zero
 twice-before n (suc c) h = rw (mul-suc n c, suc-mul c (suc c), mul-suc c c) (omega (arith, twice-before n c (omega arith)))
 
 -- all pairs
-pub all-pairs : (n : ℕ) → pairsBefore n n ≡ n * (n - 1) / 2
+all-pairs : (n : ℕ) → pairsBefore n n ≡ n * (n - 1) / 2
 all-pairs zero = omega (arith, twice-before 0 0 (le-refl 0))
 all-pairs (suc k) =
     let less : suc k - 1 ≡ k = omega arith in
@@ -48,7 +47,7 @@ before-past n c h =
 
 module _ (n : ℕ) where
   -- the pairs up to c-d are among those of numbers up to c
-  pub within-first : (c d : ℕ) → d < n → ordinal n c d ≤ pairsBefore n (c + 1)
+  within-first : (c d : ℕ) → d < n → ordinal n c d ≤ pairsBefore n (c + 1)
   unfolding ordinal
   within-first c d h = rw (before-more n c) (omega arith)
 
