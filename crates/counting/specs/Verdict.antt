@@ -85,8 +85,8 @@ faultGap T none = pos 0
 faultGap T (some (Column c x n)) = pos 0
 faultGap T (some (Pair c d x y n)) = gap (levelsOf T (c - 1) * levelsOf T (d - 1)) (T .runs) n
 
--- how many pairs of m columns are counted up to what is found: all of them for a table that passes, none where a column is uneven, and up to two columns that
--- are as many as their place in the order says (02, K8)
+-- how many pairs of m columns are counted: all of them for a table that passes, none where a column is uneven, and where two columns fail as many as the place
+-- of these two in the order says, from 1 (02, K8)
 abbrev pub pairsCounted : ℕ → TableFinding → ℕ
 pairsCounted m Passes = m * (m - 1) / 2
 pairsCounted m (Fails (Column c x n)) = 0
