@@ -1,5 +1,7 @@
 // Bytes put into a lent buffer, and buffers set back to zero. A function that puts bytes puts them from a place on, leaves the rest of the
 // buffer, and returns the place after them.
+#![tactic(auto)]
+
 ghost use Rattle.std.specs.Prelude.{◌≡◌, [], ◌∷◌, ◌+◌, ◌≤◌, ◌<◌, length, replicate};
 ghost use Rattle.buffers.specs.Put.{Put, Bytes};
 

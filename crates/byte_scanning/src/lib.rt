@@ -1,4 +1,6 @@
 // One byte more of a text of decimal words: what it does to the state of the scanner, and the number of a word that it ends.
+#![tactic(auto)]
+
 ghost use Rattle.std.specs.Prelude.{◌≡◌};
 ghost use Rattle.words.specs.Words.{is_gap};
 ghost use Rattle.words.specs.Scanner.{grown, begun, stored, resumed, stepped};

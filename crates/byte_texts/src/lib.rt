@@ -1,4 +1,6 @@
 // Searches and comparisons of bytes.
+#![tactic(auto)]
+
 ghost use Rattle.std.specs.Prelude.{◌≡◌, drop};
 ghost use Rattle.byte_texts.specs.Bytes.{first_place, same_bytes, all_zero};
 

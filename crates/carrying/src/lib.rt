@@ -1,4 +1,6 @@
 // The steps of an order, one after the other: a step's questions come before the next step's.
+#![tactic(auto)]
+
 ghost use Rattle.std.specs.Prelude.{length};
 ghost use Rattle.layout.specs.Bytes.{Zeros, LongEnough};
 ghost use Rattle.layout.specs.Step.{Left};

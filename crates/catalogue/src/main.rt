@@ -1,4 +1,6 @@
 // The papers' arrays: the orders of `orders/`, with the second implementation's answers in the file `stdin`. docs/CATALOGUE.md lists them.
+#![tactic(auto)]
+
 fn main() {
     records::compare_all();
 }

@@ -6,6 +6,8 @@
 // for a sheet of so many runs and columns, with 65536 x H + L pence for a run, a discount of 65536 x D + E percent, and P prices of columns, 65536 x h + l pence each;
 // its level list is the V bytes v1 .. vV, and its table is A x B bytes, c1 .. cC over and over, or zeros if C is 0. Of each is written a line: the answer and the
 // charge. The file `stdout`, with which this is compared, is made by the second implementation.
+#![tactic(auto)]
+
 ghost use Rattle.std.specs.Prelude.{◌≡◌, ◌≤◌, ◌<◌, length};
 
 use charges::Quote;

@@ -1,4 +1,6 @@
 // An order planned, and what its sheet costs put into one buffer (document 02, K7).
+#![tactic(auto)]
+
 ghost use Rattle.std.specs.Prelude.{◌≤◌, length};
 ghost use Rattle.buffers.specs.Put.{Put};
 ghost use Rattle.promise.specs.Promise.{planned};

@@ -1,4 +1,6 @@
 // The charge for a sheet that is handed in (document 02, K7).
+#![tactic(auto)]
+
 ghost use Rattle.std.specs.Prelude.{◌≡◌, ℕ, ◌+◌, ◌*◌, ◌≤◌, ◌<◌, length, get_or};
 ghost use Rattle.finite.specs.Sum.{bit};
 ghost use Rattle.charges.specs.Charge.{rounded};

@@ -1,4 +1,6 @@
 // What is printed of the check of a table (document 02, K5 and K8). It is put whole into a buffer, so that a program only has to read, to check and to write.
+#![tactic(auto)]
+
 ghost use Rattle.std.specs.Prelude.{◌+◌, ◌≤◌, length};
 ghost use Rattle.buffers.specs.Put.{Put};
 ghost use Rattle.check_report.specs.CheckReport.{passing_line, gap_line, pairs_line, check_printed, check_room};

@@ -1,6 +1,8 @@
 // The checker: reads a table as decimal numbers from standard input, written as an ingredient of an order is, and prints whether it passes or why not, the gap,
 // and how many pairs of columns were counted (document 02, K5 and K8). What is printed for the text that is read is a definition, `reading_checked` in
 // crates/check_report/specs/CheckReport.antt.
+#![tactic(auto)]
+
 ghost use Rattle.std.specs.Prelude.{◌≤◌, length, take};
 ghost use Rattle.buffers.specs.Put.{Put};
 ghost use Rattle.words.specs.Scanner.{scanned_reading, Ended};

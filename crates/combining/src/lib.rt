@@ -1,4 +1,5 @@
 // How the check of a generator combines columns: its types, the definitions of what is combined, and the laws from there to the verdict. No function.
+#![tactic(auto)]
 
 // Where the columns of a factor start in a row, and how many they are.
 #[derive(Drop)]

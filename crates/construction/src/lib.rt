@@ -1,4 +1,6 @@
 // The construction of a run table from an order, in six kinds of steps: the planner.
+#![tactic(auto)]
+
 mod fill; // fill.rt: questions 2 to 8
 
 ghost use Rattle.promise.specs.Promise.{Promise};

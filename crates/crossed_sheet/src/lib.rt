@@ -1,5 +1,7 @@
 // The sheet that step 6, CROSS, leaves: the one that SUM leaves, which lies in the buffers, with h's columns after its own (02, K6). It is built in
 // the scratch, run by run.
+#![tactic(auto)]
+
 ghost use Rattle.std.specs.Prelude.{◌≡◌, ◌+◌, ◌*◌, ◌≤◌, length};
 ghost use mathlib.Core.List.{◌++◌, flat_map};
 ghost use Rattle.finite.specs.Lists.{from};

@@ -1,4 +1,6 @@
 // Step 6, CROSS r, d1 .. dr, k, h (02, K6): the questions in turn, and then the sheet. It is asked what SUM is asked, and more.
+#![tactic(auto)]
+
 ghost use Rattle.std.specs.Prelude.{◌≡◌, true, ◌≤◌, ◌<◌, ltb, length};
 ghost use Rattle.counting.specs.Table.{columns as columns_of};
 ghost use Rattle.ingredients.specs.Named.{table_in, some_table, Legible};

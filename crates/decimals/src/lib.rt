@@ -1,4 +1,6 @@
 // A number in decimal digits, put into a buffer from a place on. The rest of the buffer stays, and the place after the digits is returned.
+#![tactic(auto)]
+
 ghost use Rattle.std.specs.Prelude.{◌+◌, ◌≤◌, length};
 ghost use Rattle.buffers.specs.Put.{Put};
 ghost use Rattle.decimals.specs.Decimals.{decimal_digits, signed_digits};

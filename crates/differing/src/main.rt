@@ -1,5 +1,7 @@
 // Stored answers of which some are wrong, each in another way, between others that hold: the file `stdin` says which, and `stdout` that each of them
 // was seen, and no other.
+#![tactic(auto)]
+
 fn main() {
     records::compare_all();
 }

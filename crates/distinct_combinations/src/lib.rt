@@ -1,4 +1,6 @@
 // Combinations of a generator's columns, row by row, and whether those of single factors are all different.
+#![tactic(auto)]
+
 ghost use Rattle.std.specs.Prelude.{◌≡◌, true, ◌+◌, ◌^◌, ◌<◌, length};
 ghost use Rattle.counting.specs.Checkable.{CheckableGenerator};
 ghost use Rattle.counting.specs.Generator.{generator_of, width};

@@ -1,4 +1,6 @@
 // Question 3: the first entry that is not below its levels, p or s.
+#![tactic(auto)]
+
 ghost use Rattle.std.specs.Prelude.{◌≡◌};
 ghost use Rattle.order.specs.Grammar.{read_order};
 ghost use Rattle.order.specs.Range.{range_of};

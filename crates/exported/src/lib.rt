@@ -1,4 +1,6 @@
 // The planner, its pages and charges, and the check of a table, for programs in Rust, C and other languages: numbers and slices alone. include/yurbantze.h is the declaration for C.
+#![tactic(auto)]
+
 ghost use Rattle.charges.specs.ChargePromise.{ChargePromise};
 ghost use Rattle.page_promise.specs.PagePromise.{PagePromise};
 ghost use Rattle.promise.specs.PromiseInNumbers.{PromiseInNumbers};

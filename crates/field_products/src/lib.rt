@@ -1,5 +1,7 @@
 // The products of the fields of 2, 3, 4, 5, 7, 8 and 9 elements, from constant tables: the row of the first element, and in it the entry of the
 // second. The tables' rule is `field_product` of `galois`.
+#![tactic(auto)]
+
 ghost use Rattle.std.specs.Prelude.{◌≡◌};
 ghost use Rattle.galois.specs.Arithmetic.{field_product};
 ghost use Rattle.galois.specs.Operands.{Operands};

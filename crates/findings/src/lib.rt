@@ -1,4 +1,6 @@
 // What a check finds, printed: an array that is written as digits is checked, and its name and what was found are printed.
+#![tactic(auto)]
+
 mod digits; // digits.rt: the values of a text's digits
 
 ghost use Rattle.findings.specs.Written.{WrittenTable, WrittenMatrix, WrittenGenerator};

@@ -1,5 +1,7 @@
 // Powers; and sums, counts and first finds over the numbers below n, lists of numbers, digits and tabulated values, for the proofs of the crates
 // above: their definitions are in specs/, their laws in proofs/.
+#![tactic(auto)]
+
 pub mod pairs; // pairs.rt: the pairs of the numbers below n, one after the other
 
 ghost use Rattle.std.specs.Prelude.{◌≡◌, ◌^◌, ◌≤◌, ◌<◌};

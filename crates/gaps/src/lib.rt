@@ -1,4 +1,6 @@
 // How far off the values are whose counters a check has filled, and which of them is farthest off (02, K5).
+#![tactic(auto)]
+
 ghost use Rattle.std.specs.Prelude.{◌≡◌, ◌≤◌, ◌<◌, length, get_or};
 ghost use Rattle.gaps.specs.Gaps.{discrepancy, farthest_off};
 

@@ -1,4 +1,6 @@
 // The runs of the table that a generator makes, for step 2, FIELD. Its entries and widths are read from the list where they stand.
+#![tactic(auto)]
+
 ghost use Rattle.std.specs.Prelude.{◌≡◌, ◌+◌, ◌^◌, ◌≤◌, ◌<◌, T, length};
 ghost use Rattle.finite.specs.Digits.{digits, numeral};
 ghost use Rattle.finite.specs.Lists.{from};

@@ -1,4 +1,6 @@
 // Step 2, FIELD i: the sheet is the table that generator i makes. Its entries and widths are read from the list where they stand.
+#![tactic(auto)]
+
 ghost use Rattle.std.specs.Prelude.{◌≡◌, ◌*◌, ◌^◌, ◌≤◌, max, T, length};
 ghost use Rattle.galois.specs.Arithmetic.{field_size};
 ghost use Rattle.sheets.specs.Steps.{filled, field_step};

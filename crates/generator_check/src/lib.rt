@@ -1,5 +1,7 @@
 // The check of a generator. One that passes, as nearly all do, is known by the combinations of each factor alone. Otherwise the coefficient
 // lists of every two factors, or of an only one, are tried in increasing order until one combines their columns to zero.
+#![tactic(auto)]
+
 ghost use Rattle.std.specs.Prelude.{◌≡◌, ◌≤◌, ◌<◌, length, get_or};
 ghost use Rattle.finite.specs.Sum.{sum};
 ghost use Rattle.finite.specs.First.{first_pair};

@@ -1,4 +1,6 @@
 // A sheet that is handed in: when it is refused as 1 (document 02, K3), for every function that takes one.
+#![tactic(auto)]
+
 ghost use Rattle.std.specs.Prelude.{◌≡◌, ◌+◌, ◌*◌, ◌≤◌, ltb, length, get_or};
 ghost use Rattle.finite.specs.Sum.{every};
 ghost use Rattle.given_sheet.specs.Given.{sizeWithin, countsWithin, entriesBelow, wellFormed};

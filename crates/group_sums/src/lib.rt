@@ -1,4 +1,6 @@
 // The sum of levels that goes with p (02, K2): in the field of p elements for p = 4, 8 and 9, and modulo p for every other p.
+#![tactic(auto)]
+
 ghost use Rattle.std.specs.Prelude.{◌≡◌, ◌+◌, ◌%◌, ◌<◌};
 ghost use Rattle.galois.specs.Levels.{over_field, level_sum};
 

@@ -1,4 +1,6 @@
 // The four house tables: their sizes, and their level counts as constants, looked up by the table's number, 101 to 104.
+#![tactic(auto)]
+
 ghost use Rattle.std.specs.Prelude.{◌≡◌, ◌<◌};
 ghost use Rattle.counting.specs.Table.{columns, levels_of};
 ghost use Rattle.house.specs.House.{HouseNumber, house_of};

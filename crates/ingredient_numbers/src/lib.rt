@@ -1,4 +1,6 @@
 // Numbers of an ingredient: the limit on its rows, and those that only a generator has, the size of its field and the widths of its factors.
+#![tactic(auto)]
+
 ghost use Rattle.std.specs.Prelude.{◌≡◌, ◌≤◌};
 ghost use Rattle.order.specs.Reader.{allowed, repeated};
 ghost use Rattle.order.specs.Grammar.{most_rows, generator_field, factor_width};

@@ -1,4 +1,6 @@
 // Look-ups of single ingredients, by number from 1. Their cost does not grow with the entries, which are passed over.
+#![tactic(auto)]
+
 ghost use Rattle.std.specs.Prelude.{◌≡◌};
 ghost use Rattle.order.specs.Grammar.{read_order};
 ghost use Rattle.places.specs.Places.{ingredients_start, ingredient_count, ingredient_at, ingredient_after};

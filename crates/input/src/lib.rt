@@ -1,4 +1,6 @@
 // The numbers of standard input, which is read as far as they need it: up to its end, or to a word that is refused (document 01, "Printed runs"); and what answers it, as a definition.
+#![tactic(auto)]
+
 ghost use Rattle.std.specs.Prelude.{◌≡◌, length};
 ghost use Rattle.input.specs.Input.{after_read, ScannedInput};
 

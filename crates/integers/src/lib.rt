@@ -1,4 +1,6 @@
 // Signed numbers: the difference of two numbers, how large one is with its sign ignored, and the laws of both (proofs/).
+#![tactic(auto)]
+
 ghost use Rattle.std.specs.Prelude.{◌≡◌, ◌^◌, ◌<◌, pos, ◌-ℤ◌, nat_abs};
 
 // A number less another.

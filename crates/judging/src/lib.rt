@@ -1,4 +1,6 @@
 // One order and its stored answer: an order is planned in buffers that are full of other bytes, and what is printed of it is held to what is stored.
+#![tactic(auto)]
+
 ghost use Rattle.std.specs.Prelude.{◌≡◌, ◌∷◌, length};
 ghost use Rattle.words.specs.Words.{Reading};
 ghost use Rattle.sheets.specs.Steps.{Outcome};

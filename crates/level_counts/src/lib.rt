@@ -1,4 +1,6 @@
 // The levels of a table counted over its runs, in one column or in two together.
+#![tactic(auto)]
+
 ghost use Rattle.std.specs.Prelude.{◌≡◌};
 ghost use Rattle.tally.specs.Tally.{Cleared, Tallied, keys_deviation, as_deviation};
 ghost use Rattle.level_counts.specs.Keys.{Keyed, levels_key, farthest_key};

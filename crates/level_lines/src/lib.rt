@@ -1,5 +1,7 @@
 // The lines of a page that have levels: level counts, and a run (document 02, K3). Each function puts a line of 79 characters and a line feed into a
 // buffer from a place on, leaves the rest of it, and returns the place after the line.
+#![tactic(auto)]
+
 ghost use Rattle.std.specs.Prelude.{◌++◌, ◌+◌, ◌≤◌, ◌<◌, length};
 ghost use Rattle.buffers.specs.Put.{Put};
 ghost use Rattle.page_text.specs.Pages.{blanks, right_aligned, in_three, closed};

@@ -1,5 +1,7 @@
 // The parts of a line of a page: numbers right-aligned in 3 each, and the end of the line (document 02, K3). Each function puts its part into a buffer
 // from a place on, leaves the rest of it, and returns the place after the part.
+#![tactic(auto)]
+
 ghost use Rattle.std.specs.Prelude.{[], ◌∷◌, ◌++◌, map, suc, ◌+◌, ◌-◌, ◌*◌, ◌≤◌, ◌<◌, length};
 ghost use Rattle.finite.specs.Lists.{from};
 ghost use Rattle.buffers.specs.Put.{Put};

@@ -1,5 +1,7 @@
 // The lines that are printed (document 01, "Printed runs"). Each function puts bytes into a buffer from a place on, leaves the rest of it, and
 // returns the place after them.
+#![tactic(auto)]
+
 ghost use Rattle.std.specs.Prelude.{◌+◌, ◌*◌, ◌≤◌, ◌<◌, [], ◌∷◌, ◌++◌, length};
 ghost use Rattle.buffers.specs.Put.{Put};
 ghost use Rattle.rows.specs.Rows.{spaced};

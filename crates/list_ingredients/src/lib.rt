@@ -1,4 +1,6 @@
 // Reads the ingredients of an order: each up to its entries, which are passed over at once.
+#![tactic(auto)]
+
 ghost use Rattle.std.specs.Prelude.{◌≡◌, ◌+◌, ◌≤◌};
 ghost use Rattle.order.specs.Reader.{repeated};
 ghost use Rattle.order.specs.Grammar.{counted, table_body, matrix_body, generator_body, body, most_rows, read_ingredient};

@@ -1,4 +1,6 @@
 // Single numbers of the list of an order, each with the place after it, or the place where the list is refused.
+#![tactic(auto)]
+
 ghost use Rattle.std.specs.Prelude.{◌≡◌, get_or};
 ghost use Rattle.order.specs.Reader.{allowed};
 ghost use Rattle.order.specs.Grammar.{between};

@@ -1,4 +1,6 @@
 // Reads the operands of steps, but for the columns of MERGE, which are a series.
+#![tactic(auto)]
+
 pub mod operand_numbers; // operand_numbers.rt: the p of MERGE, and the numbers of ingredients
 
 ghost use Rattle.std.specs.Prelude.{◌≡◌};

@@ -1,4 +1,6 @@
 // Series of numbers of the list of an order: the place after them, or the place where the list is refused.
+#![tactic(auto)]
+
 ghost use Rattle.std.specs.Prelude.{◌≡◌, ◌-◌, length};
 ghost use Rattle.order.specs.Reader.{allowed, numbers, repeated};
 ghost use Rattle.order.specs.Grammar.{between};

@@ -1,4 +1,6 @@
 // Reads the steps of an order: each with its operands.
+#![tactic(auto)]
+
 ghost use Rattle.std.specs.Prelude.{◌≡◌, ◌+◌};
 ghost use Rattle.order.specs.Reader.{repeated};
 ghost use Rattle.order.specs.Grammar.{counted, read_merge, step_of, read_step};

@@ -1,5 +1,7 @@
 // The verdicts on ingredients where they stand in the list (question 4). The checks of counting take bytes, so the numbers of an ingredient are copied
 // to the front of two buffers, which are set back to zero after the check.
+#![tactic(auto)]
+
 ghost use Rattle.std.specs.Prelude.{◌≡◌, ◌≤◌, length, take, drop, replicate};
 ghost use Rattle.buffers.specs.Put.{Put};
 ghost use Rattle.counting.specs.Verdict.{table_verdict, matrix_verdict};

@@ -1,5 +1,7 @@
 // Between questions 6 and 7 of step 6, CROSS (02, K6): does each column of every matrix that serves a sheet column hold each value M ÷ p times?
 // The matrices are read where they stand in the list. The counters are made once for the step, and are zero again after each even column.
+#![tactic(auto)]
+
 ghost use Rattle.std.specs.Prelude.{◌≡◌, true, ℕ, ◌<◌, ltb};
 ghost use Rattle.galois.specs.Arithmetic.{member};
 ghost use Rattle.counting.specs.Verdict.{deviation};

@@ -1,4 +1,6 @@
 // The check of a difference matrix: every difference of every two columns, counted over the rows.
+#![tactic(auto)]
+
 mod differences; // differences.rt: the differences of two columns, counted over the rows
 
 ghost use Rattle.std.specs.Prelude.{◌≡◌};

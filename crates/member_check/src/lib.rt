@@ -1,4 +1,6 @@
 // Question 7 of step 4, MERGE p, c1 .. c(p+1): is each member from the third on its sum in every run?
+#![tactic(auto)]
+
 ghost use Rattle.std.specs.Prelude.{◌≡◌, length};
 ghost use Rattle.finite.specs.Lists.{AllBelow};
 ghost use Rattle.counting.specs.Table.{table_of};

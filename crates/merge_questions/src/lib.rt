@@ -1,6 +1,8 @@
 // Question 6 of step 4, MERGE p, c1 .. c(p+1): do the members, p + 1 columns of p levels, fit the sheet in hand? The list names columns from 1.
 // Question 7, whether each from the third on is its sum, is asked in `member_check`.
 // Each column of the sheet has a role in a byte: 0 if it stays, 1 for c1, whose place the merged column takes, 2 for any other member, which goes.
+#![tactic(auto)]
+
 ghost use Rattle.std.specs.Prelude.{◌≡◌, true, [], ◌≤◌, ◌<◌, length, get_or};
 ghost use Rattle.counting.specs.Table.{table_of};
 ghost use Rattle.step_tables.specs.Merge.{merge_fits};

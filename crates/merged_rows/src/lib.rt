@@ -1,6 +1,8 @@
 // A row of the sheet that step 4, MERGE p, c1 .. c(p+1), leaves: the members, p + 1 columns of p levels, become one column of p × p levels.
 // Each column of the sheet has a role in a byte: 0 if it stays, 1 for c1, whose place the merged column takes, 2 for any other member, which goes.
 // Between two members all columns stay. Such a stretch is put as a whole, and where it stops is found once for all runs.
+#![tactic(auto)]
+
 ghost use Rattle.std.specs.Prelude.{◌≡◌, ◌+◌, ◌*◌, ◌≤◌, ◌<◌, length, get_or};
 ghost use Rattle.buffers.specs.Put.{Put};
 ghost use Rattle.merged_rows.specs.MergedRow.{HasStops, member_place, merged_row};

@@ -1,4 +1,6 @@
 // The sheet that step 4, MERGE p, c1 .. c(p+1), leaves: its runs, row by row, and its level counts, put in the place of the sheet in hand.
+#![tactic(auto)]
+
 ghost use Rattle.std.specs.Prelude.{◌*◌, ◌≤◌, length};
 ghost use Rattle.buffers.specs.Put.{Put};
 ghost use Rattle.counting.specs.Table.{table_of};

@@ -1,4 +1,6 @@
 // Step 4, MERGE p, c1 .. c(p+1): the members, p + 1 columns of p levels, become one column of p × p levels. The list names columns from 1.
+#![tactic(auto)]
+
 ghost use Rattle.layout.specs.Bytes.{Zeros, sheet_in};
 ghost use Rattle.layout.specs.Step.{Stands, Ready, Left, later_in};
 

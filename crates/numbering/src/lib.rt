@@ -1,4 +1,6 @@
 // An answer in numbers: 01's number of a refusal, 0 for a filled order, and six details; and beside them the spare degrees (02, K1).
+#![tactic(auto)]
+
 ghost use Rattle.std.specs.Prelude.{◌≡◌};
 ghost use Rattle.sheets.specs.Refusals.{numbered, answer_numbers, answer_spare};
 

@@ -1,6 +1,7 @@
 // What the questions on the list of an order answer (document 01, "The order"; questions 2 and 3). The order itself, the list that writes it and the reader are
 // definitions in specs/; the crates `list_numbers`, `list_series`, `list_ingredients`, `list_steps`, `reading`, `ingredient_places`,
 // `step_places` and `entry_range` have the code.
+#![tactic(auto)]
 
 // A place in the list.
 #[derive(Drop)]

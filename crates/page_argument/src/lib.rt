@@ -1,4 +1,6 @@
 // The pages that the program of run sheets is asked for, by its argument (document 02, K3).
+#![tactic(auto)]
+
 ghost use Rattle.std.specs.Prelude.{◌≡◌, ◌≤◌, length, take};
 ghost use Rattle.page_argument.specs.PageArgument.{sole_number, asked_by};
 ghost use Rattle.page_argument.specs.declared.Asked.TheVariants.{One};

@@ -1,4 +1,6 @@
 // The number of pages of a sheet (document 02, K3).
+#![tactic(auto)]
+
 ghost use Rattle.std.specs.Prelude.{◌≡◌, ◌≤◌};
 ghost use Rattle.page_text.specs.Pages.{parts, page_count};
 

@@ -6,6 +6,8 @@
 // for a sheet of so many runs and columns, the number of a page, and a buffer of `room` bytes, which holds other bytes before the call; its level list is the L
 // bytes l1 .. lL, and its table is A x B bytes, c1 .. cC over and over. Of each are written the answer and how many bytes after the page are not zero, and
 // the page if there is one. The file `stdout`, with which this is compared, is made by the second implementation.
+#![tactic(auto)]
+
 ghost use Rattle.std.specs.Prelude.{◌≡◌, ◌≤◌, ◌<◌, length};
 
 use input::scan_input;

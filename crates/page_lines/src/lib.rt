@@ -1,5 +1,7 @@
 // The lines of a page that have no levels: the first one, and one that is not used (document 02, K3). Each function puts a line of 79 characters and a
 // line feed into a buffer from a place on, leaves the rest of it, and returns the place after the line.
+#![tactic(auto)]
+
 ghost use Rattle.std.specs.Prelude.{[], ◌++◌, map, suc, ◌+◌, ◌-◌, ◌≤◌, ◌<◌, length};
 ghost use Rattle.finite.specs.Lists.{from};
 ghost use Rattle.buffers.specs.Put.{Put};

@@ -1,4 +1,6 @@
 // A page of a sheet, put into a buffer (document 02, K3).
+#![tactic(auto)]
+
 ghost use Rattle.std.specs.Prelude.{◌≡◌, ◌+◌, ◌*◌, ◌≤◌, ◌<◌, length};
 ghost use mathlib.Core.List.{flat_map};
 ghost use Rattle.finite.specs.Lists.{from};

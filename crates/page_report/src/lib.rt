@@ -1,4 +1,6 @@
 // What the program of run sheets prints of an order (document 02, K3). It is put whole into a buffer, so that a program only has to read, to plan and to write.
+#![tactic(auto)]
+
 ghost use Rattle.std.specs.Prelude.{◌≤◌, length};
 ghost use Rattle.buffers.specs.Put.{Put};
 ghost use Rattle.given_sheet.specs.Given.{WellFormed, givenSheet};

@@ -1,5 +1,7 @@
 // Reads an order from standard input and writes its run sheets, all pages one after the other or the one whose number is the first argument
 // (document 02, K3). What is written for the text that is read is a definition, `reading_pages` in crates/page_report/specs/PageReport.antt.
+#![tactic(auto)]
+
 ghost use Rattle.std.specs.Prelude.{◌≡◌, ◌⊎◌, List, ℕ, ◌≤◌, length, take};
 ghost use Rattle.buffers.specs.Put.{Put};
 ghost use Rattle.sheets.specs.Outcome.{outcome};

@@ -1,4 +1,6 @@
 // A page of a sheet that is handed in (document 02, K3).
+#![tactic(auto)]
+
 ghost use Rattle.page_promise.specs.PagePromise.{PagePromise};
 
 use buffers::clear;

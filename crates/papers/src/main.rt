@@ -1,4 +1,6 @@
 // Runs the checks of `counting` on arrays that the papers print, on damaged copies of some, and on generators, and prints what each found.
+#![tactic(auto)]
+
 mod generators;
 mod matrices;
 mod tables;

@@ -1,4 +1,6 @@
 // Question 4: does every ingredient meet its published definition?
+#![tactic(auto)]
+
 ghost use Rattle.std.specs.Prelude.{◌≡◌, ◌≤◌, length, replicate};
 ghost use Rattle.order.specs.Range.{range_of};
 ghost use Rattle.order.specs.declared.Entries.TheVariants.{InRange};

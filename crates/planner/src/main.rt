@@ -1,5 +1,7 @@
 // The planner: reads an order as decimal numbers from standard input and prints the run table or the refusal (document 01, "Printed runs"). Its own
 // part is to put the whole answer to what is read into one buffer, and to write that at once.
+#![tactic(auto)]
+
 ghost use Rattle.std.specs.Prelude.{◌≡◌, ◌≤◌, length, take};
 ghost use Rattle.buffers.specs.Put.{Put};
 ghost use Rattle.sheets.specs.Outcome.{outcome};

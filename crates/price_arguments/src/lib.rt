@@ -1,4 +1,6 @@
 // The numbers of a price list, as a program is handed them for arguments (document 02, K7).
+#![tactic(auto)]
+
 ghost use Rattle.std.specs.Prelude.{◌≡◌};
 ghost use Rattle.price_arguments.specs.PriceArguments.{price_in};
 

@@ -1,6 +1,8 @@
 // Reads an order from standard input and writes what its sheet costs, in pence, by the price list that the arguments are: the pence per run, the pence for a changed
 // level in each column, and the discount in percent (document 02, K7). What is written for the text that is read is a definition, `reading_charged` in
 // crates/charge_report/specs/ChargeReport.antt.
+#![tactic(auto)]
+
 ghost use Rattle.std.specs.Prelude.{◌≡◌, List, ℕ, ◌≤◌, length, take};
 ghost use Rattle.buffers.specs.Put.{Put};
 ghost use Rattle.sheets.specs.Outcome.{outcome};

@@ -1,4 +1,6 @@
 // A table as it is printed: document 01, "Printed runs". It is put into a buffer line by line.
+#![tactic(auto)]
+
 ghost use Rattle.std.specs.Prelude.{◌+◌, ◌*◌, ◌≤◌, length, take};
 ghost use Rattle.buffers.specs.Put.{Put};
 ghost use Rattle.lines.specs.Lines.{run_lines, printed};

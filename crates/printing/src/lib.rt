@@ -1,4 +1,6 @@
 // An order planned, and what is printed of it put into one buffer: what the planner and the comparison with stored answers both rest on.
+#![tactic(auto)]
+
 ghost use Rattle.std.specs.Prelude.{◌≤◌, length};
 ghost use Rattle.buffers.specs.Put.{Put};
 ghost use Rattle.promise.specs.Promise.{planned, Promise};

@@ -1,4 +1,6 @@
 // Question 1, of the lengths of the buffers that are lent.
+#![tactic(auto)]
+
 ghost use Rattle.std.specs.Prelude.{◌≡◌};
 ghost use Rattle.promise.specs.Promise.{suffice};
 

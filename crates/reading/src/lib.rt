@@ -1,4 +1,6 @@
 // Reads an order: a list of 16-bit numbers (document 01, "The order"; question 2).
+#![tactic(auto)]
+
 ghost use Rattle.std.specs.Prelude.{◌≡◌};
 ghost use Rattle.order.specs.Grammar.{read_order};
 ghost use Rattle.order.specs.Answers.{reading_of};

@@ -1,4 +1,6 @@
 // What is counted of records, each of which is an order with its stored answer.
+#![tactic(auto)]
+
 ghost use Rattle.std.specs.Prelude.{◌≡◌};
 ghost use Rattle.record_counts.specs.Counts.{one_more, record_counted, answer_counted};
 

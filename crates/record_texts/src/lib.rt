@@ -1,5 +1,7 @@
 // Texts of stored records: what is judged of one record and counted over a text, as definitions (specs/) and with the laws that the code rests on
 // (proofs/). The head of records/src/lib.rt shows the lines of such a text.
+#![tactic(auto)]
+
 use record_counts::Tally;
 
 // The lengths of the buffers that are lent.

@@ -15,6 +15,8 @@
 // An order goes up to "=" and the end of that line; then comes what the program `planner` prints, up to ";". A line with "@" gives the lengths of run
 // table, level list and scratch from there on, each as two numbers: 65,536 times the first, plus the second. A record without "=" differs, and so does
 // one of 262,144 bytes or more, for which there is no room.
+#![tactic(auto)]
+
 ghost use Rattle.std.specs.Prelude.{◌≡◌, [], ◌≤◌, length};
 ghost use Rattle.record_texts.specs.Text.{Compared, ends_item, after_record, after_item, after_byte, after_text};
 ghost use Rattle.record_texts.specs.State.{progress, progress_of};

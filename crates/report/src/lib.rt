@@ -1,5 +1,7 @@
 // What a program prints of an answer: document 01, "Printed runs". It is put whole into a buffer, so that a program only has to read, to plan and to
 // write.
+#![tactic(auto)]
+
 ghost use Rattle.std.specs.Prelude.{◌≤◌, length};
 ghost use Rattle.buffers.specs.Put.{Put};
 ghost use Rattle.report.specs.Report.{refusal_line, answer_printed, answer_room, Printable};

@@ -1,5 +1,7 @@
 // Numbers below 1,000 right-aligned, and the end of a line (document 02, K3). Each function puts bytes into a buffer from a place on, leaves the rest of
 // it, and returns the place after them.
+#![tactic(auto)]
+
 ghost use Rattle.std.specs.Prelude.{◌≡◌, ◌+◌, ◌-◌, ◌≤◌, ◌<◌, length};
 ghost use Rattle.buffers.specs.Put.{Put};
 ghost use Rattle.page_text.specs.Pages.{blanks, right_aligned};

@@ -1,4 +1,6 @@
 // Numbers of the list in rows, each number with a limit: the first that is not below its own. Question 3 asks it of each ingredient.
+#![tactic(auto)]
+
 ghost use Rattle.std.specs.Prelude.{◌≡◌, ◌+◌, ◌*◌, ◌≤◌, ◌<◌, length, replicate};
 ghost use Rattle.order.specs.Range.{is_in_range};
 ghost use Rattle.row_limits.specs.High.{high_in_row, high_in_rows};

@@ -1,5 +1,7 @@
 // The line of some byte-sized numbers (document 01, "Printed runs"). Each function puts bytes into a buffer from a place on, leaves the rest of it,
 // and returns the place after them.
+#![tactic(auto)]
+
 ghost use Rattle.std.specs.Prelude.{◌+◌, ◌*◌, ◌<◌, [], ◌∷◌, ◌++◌, length};
 ghost use Rattle.buffers.specs.Put.{Put};
 ghost use Rattle.decimals.specs.Decimals.{decimal_digits};

@@ -1,5 +1,7 @@
 // The numbers of an order, from the decimal words of a text (document 01, "Printed runs"). No function here makes a system call: a program reads,
 // a piece at a time.
+#![tactic(auto)]
+
 ghost use Rattle.std.specs.Prelude.{◌≡◌};
 ghost use Rattle.words.specs.Scanner.{advanced, finished};
 

@@ -1,4 +1,6 @@
 // A sheet that a step has built in the scratch takes the place of the sheet in hand.
+#![tactic(auto)]
+
 ghost use Rattle.std.specs.Prelude.{◌≡◌, ◌≤◌, length, take, drop};
 ghost use Rattle.layout.specs.Bytes.{Zeros, padded};
 

@@ -1,5 +1,7 @@
 // The sheet in hand, from one step to the next: what a step takes and leaves, and what all steps in turn come to, as definitions (specs/) and with the laws
 // that the steps rest on (proofs/); and whether a step's kind may stand at its number.
+#![tactic(auto)]
+
 ghost use Rattle.std.specs.Prelude.{◌≡◌};
 ghost use Rattle.sheet_in_hand.specs.Stepping.{kind_allowed};
 

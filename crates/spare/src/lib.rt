@@ -1,4 +1,6 @@
 // The spare degrees of a table (02, K1): what they are, how each step changes them, and that those of an even table are never negative.
+#![tactic(auto)]
+
 ghost use Rattle.std.specs.Prelude.{◌≡◌, ◌≤◌, length, take};
 ghost use Rattle.sheets.specs.declared.answer.Answer.TheVariants.{Filled};
 ghost use Rattle.spare.specs.Spare.{spare_of};

@@ -1,5 +1,7 @@
 // The sheet that step 5, SPLIT c, i, leaves: column c gives way, in its place, to the columns of table i, in which the column's level is the row,
 // from 0. Columns count from 0 here.
+#![tactic(auto)]
+
 ghost use Rattle.std.specs.Prelude.{ℕ, ◌+◌, ◌-◌, ◌*◌, ◌≤◌, ◌<◌, length, get_or};
 ghost use Rattle.buffers.specs.Put.{Put};
 ghost use Rattle.counting.specs.Table.{columns};

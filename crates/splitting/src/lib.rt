@@ -1,5 +1,7 @@
 // Step 5, SPLIT c, i: column c gives way, in its place, to the columns of table i, in which the column's level is the row, from 0.
 // Columns count from 0 here.
+#![tactic(auto)]
+
 ghost use Rattle.layout.specs.Bytes.{Zeros, sheet_in};
 ghost use Rattle.layout.specs.Step.{Stands, Ready, later_in, Left};
 

@@ -1,4 +1,6 @@
 // Look-ups of single steps, by number from 1. Their cost does not grow with the entries of the ingredients, which are passed over.
+#![tactic(auto)]
+
 ghost use Rattle.std.specs.Prelude.{◌≡◌};
 ghost use Rattle.order.specs.Grammar.{read_order};
 ghost use Rattle.places.specs.Places.{steps_start, step_at, step_after};

@@ -1,4 +1,6 @@
 // One step of an order, by its number, on the sheet in hand.
+#![tactic(auto)]
+
 ghost use Rattle.std.specs.Prelude.{◌≤◌};
 ghost use Rattle.layout.specs.Bytes.{Zeros};
 ghost use Rattle.layout.specs.Step.{Stands, Left};

@@ -1,4 +1,6 @@
 // What the programs share that answer stored calls and records: numbers of a list, taken where they stand.
+#![tactic(auto)]
+
 ghost use Rattle.std.specs.Prelude.{◌≡◌, ◌+◌, ◌*◌, ◌≤◌, min, get_or};
 
 // The lesser of two numbers.

@@ -1,4 +1,6 @@
 // The sheet that the numbers of a stored call make.
+#![tactic(auto)]
+
 ghost use Rattle.std.specs.Prelude.{◌≡◌, ℕ, ◌+◌, ◌≤◌, ◌<◌, length, get_or};
 ghost use Rattle.stored_sheets.specs.Repeated.{repeated};
 ghost use Rattle.stored_sheets.specs.StoredSheets.{stored_sheet};

@@ -1,5 +1,7 @@
 // SUM in bytes: where its matrices stand in the list, and the bytes that it leaves, as definitions (specs/) and with the laws that tie them to the
 // definition of the step (proofs/).
+#![tactic(auto)]
+
 use ingredients::named::NamedTable;
 
 // A matrix of the list: its sizes, and the place where its entries start. One with no rows stands for none.

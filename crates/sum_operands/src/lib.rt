@@ -1,5 +1,7 @@
 // Question 5 of step 3, SUM r, d1 .. dr, k: does each named ingredient exist with the kind wanted? Step 6, CROSS, begins with the same operands and is
 // asked the same of them (02, K6).
+#![tactic(auto)]
+
 ghost use Rattle.std.specs.Prelude.{◌≡◌, ltb};
 ghost use Rattle.order.specs.Grammar.{read_order};
 ghost use Rattle.places.specs.Places.{ingredient_at};

@@ -1,6 +1,8 @@
 // Question 6 of step 3, SUM r, d1 .. dr, k: do the parts fit? Step 6, CROSS, is asked the same of the operands with which it begins (02, K6).
 // The matrices are read where they stand in the list. For each p two arrays of 65 places, made once for the step, hold where the entries of the
 // matrix that serves p start in the list and how many columns it has, 0 for none.
+#![tactic(auto)]
+
 ghost use Rattle.std.specs.Prelude.{◌≡◌, true, ◌<◌, eqb, ltb, length, get_or};
 ghost use Rattle.finite.specs.Lists.{AllBelow};
 ghost use Rattle.ingredients.specs.Named.{some_table, Legible};

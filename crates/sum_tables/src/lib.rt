@@ -1,4 +1,6 @@
 // The sums in the fields of 4, 8 and 9 elements as an array, from which step 3, SUM, looks them up (02, K2).
+#![tactic(auto)]
+
 ghost use Rattle.std.specs.Prelude.{◌≡◌, ◌*◌, ◌≤◌, T, length};
 ghost use Rattle.galois.specs.Levels.{over_field};
 ghost use Rattle.sum_tables.specs.Tables.{FieldSums, FieldTables, SameBefore};

@@ -1,4 +1,6 @@
 // What is printed of records, each of which is an order with its stored answer.
+#![tactic(auto)]
+
 use libc::STDOUT_FILENO;
 use record_counts::Tally;
 

@@ -1,4 +1,6 @@
 // One run of the sheet that step 3, SUM r, d1 .. dr, k, leaves, but for k's columns: the sums of a sheet run with a row of the matrices.
+#![tactic(auto)]
+
 ghost use Rattle.std.specs.Prelude.{map, ◌+◌, ◌%◌, ◌≤◌, ◌<◌, length, get_or};
 ghost use Rattle.finite.specs.Lists.{AllBelow};
 ghost use Rattle.buffers.specs.Put.{Put};

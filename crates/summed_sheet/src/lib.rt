@@ -1,5 +1,7 @@
 // The sheet that step 3, SUM r, d1 .. dr, k, leaves: each run of the sheet with each row of the matrices, and k's columns adjoined. It is built in
 // the scratch, run by run.
+#![tactic(auto)]
+
 ghost use Rattle.std.specs.Prelude.{◌≡◌, ◌+◌, ◌*◌, ◌≤◌, length, replicate};
 ghost use mathlib.Core.List.{◌++◌, flat_map};
 ghost use Rattle.finite.specs.Lists.{from, AllBelow};

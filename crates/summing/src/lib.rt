@@ -1,4 +1,6 @@
 // Step 3, SUM r, d1 .. dr, k: the questions in turn, and then the sheet.
+#![tactic(auto)]
+
 ghost use Rattle.std.specs.Prelude.{◌≤◌, ◌<◌, length, get_or};
 ghost use Rattle.counting.specs.Table.{columns as columns_of};
 ghost use Rattle.ingredients.specs.Named.{table_in, some_table, Legible};

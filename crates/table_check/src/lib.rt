@@ -1,4 +1,6 @@
 // The check of a table: every level of every column, then every pair of levels of every two columns, counted over the runs.
+#![tactic(auto)]
+
 ghost use Rattle.std.specs.Prelude.{◌≡◌, ◌<◌, length};
 ghost use Rattle.counting.specs.Table.{table_of};
 ghost use Rattle.counting.specs.Checkable.{CheckableTable};

@@ -4,6 +4,8 @@
 //
 // for a list of the L numbers a1 .. aL. Of each is written a line: the seven numbers of the answer, the gap, and the pairs of columns that were
 // counted. The file `stdout`, with which this is compared, is made by the second implementation.
+#![tactic(auto)]
+
 ghost use Rattle.std.specs.Prelude.{◌≤◌, ◌<◌, length};
 
 use decimals::put_signed;

@@ -1,4 +1,6 @@
 // What SPLIT asks of the table that it puts in the place of a column, and what it adds for it. Columns count from 0 here.
+#![tactic(auto)]
+
 ghost use Rattle.std.specs.Prelude.{◌≡◌, ◌&&◌, eqb, ltb, length, get_or};
 ghost use Rattle.step_tables.specs.Sheet.{SmallEnough};
 ghost use Rattle.spare.specs.Spare.{spare};

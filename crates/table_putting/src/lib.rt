@@ -1,4 +1,6 @@
 // A table that a number names, put into a buffer: the levels of one run, all runs, and the level counts.
+#![tactic(auto)]
+
 ghost use Rattle.std.specs.Prelude.{◌+◌, ◌*◌, ◌≤◌, ◌<◌, length};
 ghost use Rattle.buffers.specs.Put.{Put};
 ghost use Rattle.counting.specs.Table.{columns};

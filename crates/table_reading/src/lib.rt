@@ -1,4 +1,6 @@
 // The level counts and the levels of a table that a number names, read where they stand.
+#![tactic(auto)]
+
 ghost use Rattle.std.specs.Prelude.{◌≡◌, ◌<◌};
 ghost use Rattle.counting.specs.Table.{columns, levels_of};
 ghost use Rattle.ingredients.specs.Named.{table_in, Legible};

@@ -1,4 +1,6 @@
 // The size of a table that a number names.
+#![tactic(auto)]
+
 ghost use Rattle.std.specs.Prelude.{◌≡◌};
 ghost use Rattle.counting.specs.Table.{columns};
 ghost use Rattle.ingredients.specs.Named.{table_in, Legible};

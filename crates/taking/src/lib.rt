@@ -1,4 +1,6 @@
 // Step 1, TAKE i: the sheet is table i.
+#![tactic(auto)]
+
 ghost use Rattle.std.specs.Prelude.{◌≤◌, length};
 ghost use Rattle.layout.specs.Bytes.{Zeros};
 ghost use Rattle.layout.specs.Step.{Readable, Stands, first_in, Left};

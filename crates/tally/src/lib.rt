@@ -1,5 +1,7 @@
 // A counter for each of up to 4,096 level pairs, shared by the checks of a table and of a matrix: filled over the runs, then read once and set back
 // to zero.
+#![tactic(auto)]
+
 ghost use Rattle.std.specs.Prelude.{◌≡◌, ℕ, ◌≤◌, length, get_or};
 ghost use Rattle.counting.specs.Verdict.{deviation};
 ghost use Rattle.tally.specs.Tally.{Cleared, as_deviation};

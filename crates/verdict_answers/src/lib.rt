@@ -1,4 +1,6 @@
 // The answer to question 4 that a verdict comes to: that ingredient number i passes, or the refusal that 01 has for its fault.
+#![tactic(auto)]
+
 ghost use Rattle.std.specs.Prelude.{◌≡◌};
 ghost use Rattle.sheets.specs.Outcome.{table_refusal, matrix_refusal, generator_refusal};
 ghost use Rattle.question_4.specs.Passing.{passing_of};

@@ -1,4 +1,6 @@
 // The numbers of a text that is there whole, as a stored order or an argument is (document 01, "Printed runs").
+#![tactic(auto)]
+
 ghost use Rattle.std.specs.Prelude.{◌≡◌, length};
 ghost use Rattle.words.specs.Words.{reading};
 ghost use Rattle.words.specs.Scanner.{Ended, scanned_reading};

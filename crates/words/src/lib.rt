@@ -1,4 +1,5 @@
 // What the decimal words of a text come to (document 01, "Printed runs"), as definitions and laws, and how far a scanner has read them.
+#![tactic(auto)]
 
 // How far a text has been read.
 #[derive(Drop)]

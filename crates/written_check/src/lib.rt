@@ -1,4 +1,6 @@
 // The check of a table that is handed in by itself, written as an ingredient of an order is (document 02, K5).
+#![tactic(auto)]
+
 ghost use Rattle.std.specs.Prelude.{◌≡◌};
 ghost use Rattle.order.specs.Answers.{spot_of};
 ghost use Rattle.order.specs.declared.Entries.TheVariants.{InRange};
