@@ -2,7 +2,7 @@
 #![tactic(auto)]
 
 // What is answered of a sheet and a price list: 0 and the charge in pence, or the number of the refusal, 1 or 15, and 0.
-#[derive(Drop)]
+#[derive(Clone, Copy)]
 pub struct Quote {
     pub answer: usize,
     pub charge: u64,

@@ -2,21 +2,21 @@
 #![tactic(auto)]
 
 // Where the columns of a factor start in a row, and how many they are.
-#[derive(Drop)]
+#[derive(Clone, Copy)]
 pub struct Block {
     pub start: usize,
     pub width: usize,
 }
 
 // The number of the least coefficient list that combines columns to zero, if there is one.
-#[derive(Drop)]
+#[derive(Clone, Copy)]
 pub enum Dependence {
     Nothing,
     Least(usize),
 }
 
 // Coefficients that are left to use, the last one lowest, and the combination so far.
-#[derive(Drop)]
+#[derive(Clone, Copy)]
 pub struct Combining {
     pub rest: usize,
     pub sum: u8,

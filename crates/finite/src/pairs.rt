@@ -3,7 +3,7 @@
 ghost use Rattle.std.specs.Prelude.{◌≡◌, ◌≤◌, ◌<◌};
 ghost use Rattle.finite.specs.Pairs.{start_pair, next_pair};
 
-#[derive(Drop)]
+#[derive(Clone, Copy)]
 pub struct IndexPair {
     pub first: usize,
     pub second: usize,

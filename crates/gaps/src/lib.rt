@@ -7,7 +7,7 @@ ghost use Rattle.gaps.specs.Gaps.{discrepancy, farthest_off};
 use integers::{difference, magnitude};
 
 // A value, in how many runs it stands, and its gap: below zero where it is short, above where it is over.
-#[derive(Drop)]
+#[derive(Clone, Copy)]
 pub struct Discrepancy {
     pub value: usize,
     pub times: usize,

@@ -16,7 +16,7 @@ use buffers::put_byte;
 
 // A generator where it stands in the list: t rows, n factors over a field of s elements, the place of the first width, the length of a row, and
 // the place of the first entry.
-#[derive(Drop)]
+#[derive(Clone, Copy)]
 pub struct GeneratorAt {
     pub t: usize,
     pub n: usize,
@@ -28,7 +28,7 @@ pub struct GeneratorAt {
 
 // A run whose tuple has one digit that is not 0, or none, as run 0: its number, the weight of the digit, the row of the generator that the digit
 // multiplies, and the digit.
-#[derive(Drop)]
+#[derive(Clone, Copy)]
 struct Leading {
     run: usize,
     span: usize,

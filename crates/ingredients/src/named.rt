@@ -6,7 +6,7 @@ ghost use Rattle.ingredients.specs.Named.{named_table};
 use ingredient_places::ingredient_at;
 use order::Located;
 
-#[derive(Drop)]
+#[derive(Clone, Copy)]
 pub enum NamedTable {
     Own {
         rows: usize,

@@ -8,7 +8,7 @@ use libc::STDIN_FILENO;
 use words::{Scan, Scanned};
 
 // What comes after a read: another one, from where the scanner stands, or the answer.
-#[derive(Drop)]
+#[derive(Clone, Copy)]
 enum Next {
     Read(Scan),
     Answer(Scanned),

@@ -4,7 +4,7 @@
 
 // The size of a sheet, and its spare degrees (02, K1). Its runs lie in the run table one after the other, its level counts at the front of the
 // level list.
-#[derive(Drop)]
+#[derive(Clone, Copy)]
 pub struct Size {
     pub runs: usize,
     pub columns: usize,

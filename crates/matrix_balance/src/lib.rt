@@ -18,7 +18,7 @@ use sum_operands::matrix_named;
 use tally::{Deviation, first_deviation};
 
 // The first serving matrix with an uneven column, by its number in the list; the lowest such column, from 1, and the lowest value in it.
-#[derive(Drop)]
+#[derive(Clone, Copy)]
 pub enum Balance {
     Even,
     Uneven {
@@ -29,7 +29,7 @@ pub enum Balance {
 }
 
 // An uneven column of one matrix: the column, from 0, and a value in it.
-#[derive(Drop)]
+#[derive(Clone, Copy)]
 enum Column {
     Even,
     Uneven { column: usize, value: usize },

@@ -11,14 +11,14 @@ use group_sums::modulo_sum;
 use merge_questions::column_of;
 
 // A member that is not its sum: the run, from 0, and the member's number, from 1.
-#[derive(Drop)]
+#[derive(Clone, Copy)]
 pub enum Fault {
     Nowhere,
     At { run: usize, member: usize },
 }
 
 // What the check of the members comes to: the first fault, and how many runs it needed (02, K4).
-#[derive(Drop)]
+#[derive(Clone, Copy)]
 pub struct MemberVerdict {
     pub fault: Fault,
     pub needed: usize,

@@ -4,27 +4,27 @@
 #![tactic(auto)]
 
 // A place in the list.
-#[derive(Drop)]
+#[derive(Clone, Copy)]
 pub struct Cursor {
     pub at: usize,
 }
 
 // A number that is allowed, with the place after it, or the place where the list is refused.
-#[derive(Drop)]
+#[derive(Clone, Copy)]
 pub enum Number {
     Is { value: usize, next: Cursor },
     Refused { place: usize },
 }
 
 // The place after what was read, or the place where the list is refused.
-#[derive(Drop)]
+#[derive(Clone, Copy)]
 pub enum Walk {
     On { next: Cursor },
     Refused { place: usize },
 }
 
 // An ingredient of the list: its sizes, and the places where its level counts or widths and its entries start.
-#[derive(Drop)]
+#[derive(Clone, Copy)]
 pub enum Located {
     Table {
         rows: usize,
@@ -52,14 +52,14 @@ pub enum Located {
 }
 
 // An ingredient that was read, with the place after it, or the place where the list is refused.
-#[derive(Drop)]
+#[derive(Clone, Copy)]
 pub enum Spot {
     Found { what: Located, next: Cursor },
     Refused { place: usize },
 }
 
 // A step that was read: its kind, the place where its operands start and the place after it; or the place where the list is refused.
-#[derive(Drop)]
+#[derive(Clone, Copy)]
 pub enum Stage {
     Found {
         kind: usize,
@@ -72,14 +72,14 @@ pub enum Stage {
 }
 
 // Whether the list reads as an order (question 2), and if not, where it is refused.
-#[derive(Drop)]
+#[derive(Clone, Copy)]
 pub enum Reading {
     Reads,
     Refused { place: usize },
 }
 
 // Whether every entry is below its levels, p or s (question 3), and if not, where the first stands that is not.
-#[derive(Drop)]
+#[derive(Clone, Copy)]
 pub enum Entries {
     InRange,
     OutOfRange { place: usize },

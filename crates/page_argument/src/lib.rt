@@ -9,7 +9,7 @@ use whole_text::scan;
 use words::Scanned;
 
 // The pages that are asked for: all of a sheet's, or the one with a number.
-#[derive(Drop)]
+#[derive(Clone, Copy)]
 pub enum Asked {
     All,
     One(usize),

@@ -14,7 +14,7 @@ use page_counts::run_parts;
 use page_lines::{put_blank_line, put_number_line};
 
 // What a page has of its sheet: the runs from one on, and the columns from one to before another.
-#[derive(Drop)]
+#[derive(Clone, Copy)]
 pub struct Part {
     pub run: usize,
     pub column: usize,

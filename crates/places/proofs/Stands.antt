@@ -46,7 +46,7 @@ step_stands list o e k s here found =
     let all = written_all written_step o.steps in
     let there : 0 + length before + 1 ≡ first_step_place o = omega arith in
     let steps : Segment list (first_step_place o) all (length list) = rw there at (part_right (length o.steps ∷ []) all (part_right before (length o.steps ∷ all) whole)) in
-    value_stands Missing_step step_from StepLimits written_step (first_step_place o) o.steps k reads.1.Each-step steps here λ place after same limits t.
+    value_stands Missing_step step_from StepLimits written_step (first_step_place o) o.steps k reads.1.each_step steps here λ place after same limits t.
     found place after (rw e same) limits t
 
 module _ {list : List ℕ} {place after : ℕ} where

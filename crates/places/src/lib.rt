@@ -3,7 +3,7 @@
 #![tactic(auto)]
 
 // A step of the list: its kind, and the place where its operands start.
-#[derive(Drop)]
+#[derive(Clone, Copy)]
 pub enum Placed {
     Step { kind: usize, operands_at: usize },
     // There is no such step.

@@ -5,7 +5,7 @@ ghost use Rattle.std.specs.Prelude.{◌≡◌};
 ghost use Rattle.price_arguments.specs.PriceArguments.{price_in};
 
 // What an argument writes: a price, which is a number of 32 bits, or none.
-#[derive(Drop)]
+#[derive(Clone, Copy)]
 pub enum Price {
     Pence(u32),
     NoNumber,

@@ -11,7 +11,7 @@ use report::put_answer;
 use sheets::answer::Answer;
 
 // An answer, and the end of what is printed of it.
-#[derive(Drop)]
+#[derive(Clone, Copy)]
 pub struct Printed {
     pub answer: Answer,
     pub end: usize,

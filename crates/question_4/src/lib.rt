@@ -5,7 +5,7 @@
 use sheets::answer::Refusal;
 
 // Whether all pass; if not, the refusal has the first failure of the first that does not.
-#[derive(Drop)]
+#[derive(Clone, Copy)]
 pub enum Passing {
     AllPass,
     Refused(Refusal),

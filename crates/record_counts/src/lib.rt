@@ -5,7 +5,7 @@ ghost use Rattle.std.specs.Prelude.{◌≡◌};
 ghost use Rattle.record_counts.specs.Counts.{one_more, record_counted, answer_counted};
 
 // How many orders were compared, and how many of them came to another answer than the stored one, or left other bytes.
-#[derive(Drop)]
+#[derive(Clone, Copy)]
 pub struct Tally {
     pub records: usize,
     pub differing: usize,

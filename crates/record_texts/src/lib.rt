@@ -5,7 +5,7 @@
 use record_counts::Tally;
 
 // The lengths of the buffers that are lent.
-#[derive(Drop)]
+#[derive(Clone, Copy)]
 pub struct Lengths {
     pub table: usize,
     pub levels: usize,
@@ -13,7 +13,7 @@ pub struct Lengths {
 }
 
 // What an order came to: 01's number of its refusal, 0 where it was filled, and whether all is as the text has it.
-#[derive(Drop)]
+#[derive(Clone, Copy)]
 pub struct Judged {
     pub number: usize,
     pub same: bool,
@@ -21,7 +21,7 @@ pub struct Judged {
 
 // How far a text has been compared: what is counted so far, the lengths of the buffers for the next record, and how many bytes of the next item are
 // held.
-#[derive(Drop)]
+#[derive(Clone, Copy)]
 pub struct State {
     pub tally: Tally,
     pub lengths: Lengths,

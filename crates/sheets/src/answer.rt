@@ -2,7 +2,7 @@
 
 // Why an order is refused: document 01, "The questions, in turn". Columns, factors, steps, ingredients and members are named from 1; places, runs
 // and levels from 0; `times` is a number of runs.
-#[derive(Drop)]
+#[derive(Clone, Copy)]
 pub enum Refusal {
     ShortBuffers,
     Unreadable {
@@ -65,7 +65,7 @@ pub enum Refusal {
 }
 
 // The size of the table that was written and its spare degrees (02, K1), or why there is none.
-#[derive(Drop)]
+#[derive(Clone, Copy)]
 pub enum Answer {
     Filled {
         runs: usize,

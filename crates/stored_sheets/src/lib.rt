@@ -24,7 +24,7 @@ pub fn repeat(list: &[u16], start: usize, count: usize, bytes: &mut [u8])
 
 // A sheet as a call holds it: its level list is the `counts` numbers of the list from the place `levels` on, and its table has so many `bytes`, which are the `given` numbers
 // from the place `cells` on, over and over.
-#[derive(Drop)]
+#[derive(Clone, Copy)]
 pub struct StoredSheet {
     pub levels: usize,
     pub counts: usize,

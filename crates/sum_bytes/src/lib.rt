@@ -5,7 +5,7 @@
 use ingredients::named::NamedTable;
 
 // A matrix of the list: its sizes, and the place where its entries start. One with no rows stands for none.
-#[derive(Drop)]
+#[derive(Clone, Copy)]
 pub struct MatrixPlace {
     pub rows: usize,
     pub columns: usize,
@@ -14,7 +14,7 @@ pub struct MatrixPlace {
 }
 
 // What the operands of SUM name, with which those of CROSS begin: the table k, or none, where each number names what it should.
-#[derive(Drop)]
+#[derive(Clone, Copy)]
 pub enum Summands {
     Missing,
     Named { k: NamedTable },

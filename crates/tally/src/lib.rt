@@ -7,7 +7,7 @@ ghost use Rattle.counting.specs.Verdict.{deviation};
 ghost use Rattle.tally.specs.Tally.{Cleared, as_deviation};
 
 // The lowest value that does not stand in its share of the runs.
-#[derive(Drop)]
+#[derive(Clone, Copy)]
 pub enum Deviation {
     Nowhere,
     At { value: usize, times: usize },

@@ -2,7 +2,7 @@
 #![tactic(auto)]
 
 // How far a text has been read.
-#[derive(Drop)]
+#[derive(Clone, Copy)]
 pub enum Scan {
     // Between words, after so many numbers.
     Between { count: usize },
@@ -13,7 +13,7 @@ pub enum Scan {
 }
 
 // What a whole text comes to.
-#[derive(Drop)]
+#[derive(Clone, Copy)]
 pub enum Scanned {
     // So many numbers, at the front of the list.
     Numbers { count: usize },

@@ -5,7 +5,7 @@
 use question_4::Passing;
 
 // Whether the table passes, or why not; the signed gap of the pair that is named, 0 where none is; and how many pairs of columns were counted.
-#[derive(Drop)]
+#[derive(Clone, Copy)]
 pub struct TableCheck {
     pub passing: Passing,
     pub gap: i64,
