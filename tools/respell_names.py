@@ -85,7 +85,7 @@ class Names:
         for module, names in USED.findall(text):
             parts = module.split(".")
             ours = parts[0] == "Rattle" and len(parts) > 1 and parts[1] in self.crates
-            made = re.search(r"\.(declared|contracts)(\.|$)|\.(Goals|Given|Tie|Statement|Met)$", module)
+            made = re.search(r"\.(declared|contracts)(\.|$)|\.proofs\..*\.(Goals|Given|Tie|Statement|Met)$", module)
             for it in names.split(","):
                 name, _, other = it.strip().partition(" as ")
                 if name:

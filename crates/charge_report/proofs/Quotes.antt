@@ -12,7 +12,7 @@ use lib.Dec.{leb}
 use lib.ListN.{length, get_or, take, drop, length-drop}
 use lib.Seq.{length-take-le}
 use Rattle.counting.specs.Table.{Table, columns}
-use Rattle.given_sheet.specs.Given.{WellFormed, givenSheet}
+use Rattle.given_sheet.specs.Given.{WellFormed, given_sheet}
 use Rattle.given_sheet.proofs.Sheet.{given_columns}
 use Rattle.charges.specs.Charge.{charge}
 use Rattle.charges.specs.ChargePromise.{charge_given, ChargePromise}
@@ -50,10 +50,10 @@ module _ {N m : ℕ} {levels table : List ℕ} (sheet : WellFormed N m levels ta
 
   pub quote_same : (quote : Quote)
       → ChargePromise N m levels table (get_or numbers 0 0) (take (length numbers - 1 - 1) (drop 1 numbers)) (get_or numbers (length numbers - 1) 0) quote.answer quote.charge
-      → quote ≡ quote_by numbers (givenSheet N m levels table)
+      → quote ≡ quote_by numbers (given_sheet N m levels table)
   unfolding charge_given
   quote_same quote promise =
-      let T = givenSheet N m levels table in
+      let T = given_sheet N m levels table in
       let last = get_or numbers (length numbers - 1) 0 in
       let unfit : (100 < last) ⊎ (length (take (length numbers - 1 - 1) (drop 1 numbers)) ≢ m) → quote ≡ quote_of 15 0 =
       λ out. let refused = promise.refused_prices.1 (sheet, out) in

@@ -3,7 +3,7 @@
 
 ghost use Rattle.std.specs.Prelude.{◌≡◌, ◌≤◌, length};
 ghost use Rattle.buffers.specs.Put.{Put};
-ghost use Rattle.given_sheet.specs.Given.{WellFormed, givenSheet};
+ghost use Rattle.given_sheet.specs.Given.{WellFormed, given_sheet};
 ghost use Rattle.charge_report.specs.ChargeReport.{quote_by, quote_line, sheet_charged, charge_room};
 
 use buffers::put_byte;
@@ -23,7 +23,7 @@ pub fn put_charge(
 ) -> usize
     requires well_formed { WellFormed runs columns levels.now table.now }
     requires charge_room_in_bounds { charge_room ≤ length buf.old }
-    ensures { Put buf.old 0 (sheet_charged numbers.now (givenSheet runs columns levels.now table.now)) buf.new result }
+    ensures { Put buf.old 0 (sheet_charged numbers.now (given_sheet runs columns levels.now table.now)) buf.new result }
 {
     let quote = quote_by(numbers, table, levels, runs, columns);
     put_quote(buf, quote.answer, quote.charge)
@@ -32,7 +32,7 @@ pub fn put_charge(
 // What is answered of a sheet by the numbers of a price list: the first is the price of a run, the last the discount, and between them stand the prices of the columns.
 fn quote_by(numbers: &[u32], table: &[u8], levels: &[u8], runs: usize, columns: usize) -> Quote
     requires { WellFormed runs columns levels.now table.now }
-    ensures { result ≡ quote_by numbers.now (givenSheet runs columns levels.now table.now) }
+    ensures { result ≡ quote_by numbers.now (given_sheet runs columns levels.now table.now) }
 {
     if numbers.len() < 2 {
         return Quote {

@@ -13,7 +13,7 @@ use lib.Dec.{T, leb, eqb, eqb→eq}
 use lib.ListN.{length, get_or}
 use Rattle.finite.proofs.Tests.{T_eqb}
 use Rattle.counting.specs.Table.{table_of}
-use Rattle.given_sheet.specs.Given.{WellFormed, wellFormed, givenSheet}
+use Rattle.given_sheet.specs.Given.{WellFormed, well_formed, given_sheet}
 use Rattle.given_sheet.proofs.Given.{leb-iff, both_iff, passed, well-formed-iff}
 use Rattle.given_sheet.proofs.Sheet.{given_columns}
 use Rattle.charges.specs.Charge.{price_sum, hundredfold, charge}
@@ -27,16 +27,16 @@ module _ (N m : ℕ) (levels table : List ℕ) (run_price : ℕ) (prices : List 
   abbrev pub ChargeSettled : ℕ → ℕ → Type 0
   ChargeSettled answer pence = (answer ≡ charge_answer N m levels table prices discount) × (pence ≡ charge_given N m levels table run_price prices discount)
 
-  pub sheet_refused : wellFormed N m levels table ≡ false → ChargeSettled 1 0
+  pub sheet_refused : well_formed N m levels table ≡ false → ChargeSettled 1 0
   unfolding charge_given charge_answer
   sheet_refused e = rw e (refl, refl)
 
-  module _ (stands : wellFormed N m levels table ≡ true) where
+  module _ (stands : well_formed N m levels table ≡ true) where
     pub prices_refused : (leb discount 100 && eqb (length prices) m) ≡ false → ChargeSettled 15 0
     unfolding charge_given charge_answer
     prices_refused e = rw (stands, e) (refl, refl)
 
-    pub sheet_priced : (leb discount 100 && eqb (length prices) m) ≡ true → ChargeSettled 0 (charge (givenSheet N m levels table) run_price prices discount)
+    pub sheet_priced : (leb discount 100 && eqb (length prices) m) ≡ true → ChargeSettled 0 (charge (given_sheet N m levels table) run_price prices discount)
     unfolding charge_given charge_answer
     sheet_priced e = rw (stands, e) (refl, refl)
 
@@ -88,21 +88,21 @@ module _ (discount many m : ℕ) where
 
 module _ {N m : ℕ} {levels table : List ℕ} (sheet : WellFormed N m levels table) (run_price : ℕ) (prices : List ℕ)
     (low : run_price ≤ 4294967295) (each : (c : ℕ) → get_or prices c 0 ≤ 4294967295) (discount : ℕ) where
-  sum_within : price_sum (givenSheet N m levels table) run_price prices ≤ (512 + 511 * 128) * 4294967295
-  unfolding givenSheet table_of
+  sum_within : price_sum (given_sheet N m levels table) run_price prices ≤ (512 + 511 * 128) * 4294967295
+  unfolding given_sheet table_of
   sum_within =
-      sum_at_most (givenSheet N m levels table) run_price prices low each sheet.runs_most (rw (given_columns sheet) sheet.columns_most)
+      sum_at_most (given_sheet N m levels table) run_price prices low each sheet.runs_most (rw (given_columns sheet) sheet.columns_most)
 
-  pub sheet_charged : Charged (givenSheet N m levels table) run_price prices discount (charge (givenSheet N m levels table) run_price prices discount)
+  pub sheet_charged : Charged (given_sheet N m levels table) run_price prices discount (charge (given_sheet N m levels table) run_price prices discount)
   unfolding hundredfold
   sheet_charged =
       record {
-        nearest = charge_nearest (givenSheet N m levels table) run_price prices discount;
-        no_other = λ other near. nearest_one (charge_nearest (givenSheet N m levels table) run_price prices discount) near;
-        undiscounted = λ e. rw e (charge_undiscounted (givenSheet N m levels table) run_price prices);
-        free = λ e. rw e (charge_free (givenSheet N m levels table) run_price prices);
-        one_run = one_run_sum (givenSheet N m levels table) run_price prices;
-        never_dearer = λ higher h. charge_falls (givenSheet N m levels table) run_price prices h;
+        nearest = charge_nearest (given_sheet N m levels table) run_price prices discount;
+        no_other = λ other near. nearest_one (charge_nearest (given_sheet N m levels table) run_price prices discount) near;
+        undiscounted = λ e. rw e (charge_undiscounted (given_sheet N m levels table) run_price prices);
+        free = λ e. rw e (charge_free (given_sheet N m levels table) run_price prices);
+        one_run = one_run_sum (given_sheet N m levels table) run_price prices;
+        never_dearer = λ higher h. charge_falls (given_sheet N m levels table) run_price prices h;
         at_most = sum_within;
         no_overflow = omega (arith, mul-le-mul sum_within (sub-le 100 discount));
       }
@@ -114,7 +114,7 @@ pub charge_promised : (N m : ℕ) (levels table : List ℕ) (run_price : ℕ) (p
 unfolding charge_given charge_answer
 charge_promised N m levels table run_price prices discount low each settled =
     let many = length prices in
-    let says = in_turn (wellFormed N m levels table) (leb discount 100 && eqb many m) (well-formed-iff N m levels table) (serves_iff discount many m) in
+    let says = in_turn (well_formed N m levels table) (leb discount 100 && eqb many m) (well-formed-iff N m levels table) (serves_iff discount many m) in
     rw (settled.0, settled.1)
     record {
       answered = refl;

@@ -5,7 +5,7 @@ use Prim.Native.Nat.{ℕ}
 use lib.ListN.{length}
 use Rattle.finite.specs.Sum.{sum, every}
 use Rattle.counting.specs.Table.{table_of}
-use Rattle.given_sheet.specs.Given.{sizeWithin, buffersLong, countsWithin, entriesBelow, wellFormed, givenSheet}
+use Rattle.given_sheet.specs.Given.{size_within, buffers_long, counts_within, entries_below, well_formed, given_sheet}
 use Rattle.charges.specs.Charge.{changes, change_pence, price_sum, hundredfold, rounded, charge}
 use Rattle.charges.specs.ChargePromise.{charge_answer, charge_given}
 
@@ -63,5 +63,5 @@ answered f =
     }
 
 pub k7_figures : map answered figures ≡ figures
-unfolding sum every table_of sizeWithin buffersLong countsWithin entriesBelow wellFormed givenSheet changes change_pence price_sum hundredfold rounded charge charge_answer charge_given
+unfolding sum every table_of size_within buffers_long counts_within entries_below well_formed given_sheet changes change_pence price_sum hundredfold rounded charge charge_answer charge_given
 k7_figures = refl

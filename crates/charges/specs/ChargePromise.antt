@@ -1,19 +1,19 @@
 -- What is promised of a charge: document 02, K7, for any sheet handed in (N runs of m columns in a table, and a level list), any prices and any discount.
 use Rattle.std.specs.Prelude.{◌≡◌, ◌↔◌, ◌⊎◌, ◌≢◌, cond, ◌&&◌, List, ℕ, ◌+◌, ◌*◌, ◌≤◌, ◌<◌, eqb, leb, length}
 use Rattle.counting.specs.Table.{Table}
-use Rattle.given_sheet.specs.Given.{WellFormed, wellFormed, givenSheet}
+use Rattle.given_sheet.specs.Given.{WellFormed, well_formed, given_sheet}
 use Rattle.charges.specs.Charge.{price_sum, hundredfold, charge, NearestPenny}
 
 -- The number that is answered: a sheet that does not stand is 1 (K3), "before all else"; then "A discount over 100 or a price count that is not m is 15". 0 says
 -- that there is a charge.
 unfoldable pub charge_answer : ℕ → ℕ → List ℕ → List ℕ → List ℕ → ℕ → ℕ
 charge_answer N m levels table prices discount =
-    cond (wellFormed N m levels table) (cond (leb discount 100 && eqb (length prices) m) 0 15) 1
+    cond (well_formed N m levels table) (cond (leb discount 100 && eqb (length prices) m) 0 15) 1
 
 -- The charge that goes with it: "after it, and after 1, the charge is 0".
 unfoldable pub charge_given : ℕ → ℕ → List ℕ → List ℕ → ℕ → List ℕ → ℕ → ℕ
 charge_given N m levels table run_price prices discount =
-    cond (eqb (charge_answer N m levels table prices discount) 0) (charge (givenSheet N m levels table) run_price prices discount) 0
+    cond (eqb (charge_answer N m levels table prices discount) 0) (charge (given_sheet N m levels table) run_price prices discount) 0
 
 -- What a price list relies on, of a sheet and what is charged for it.
 pub record Charged (T : Table) (run_price : ℕ) (prices : List ℕ) (discount pence : ℕ) : Type 0 where
@@ -41,6 +41,6 @@ pub record ChargePromise (N m : ℕ) (levels table : List ℕ) (run_price : ℕ)
   pub refused_prices : (answer ≡ 15) ↔ (WellFormed N m levels table × ((100 < discount) ⊎ (length prices ≢ m)))
   pub priced : (answer ≡ 0) ↔ (WellFormed N m levels table × (discount ≤ 100) × (length prices ≡ m))
   -- a sheet that is priced is charged the sum, less the discount, rounded once
-  pub charged : answer ≡ 0 → Charged (givenSheet N m levels table) run_price prices discount pence
+  pub charged : answer ≡ 0 → Charged (given_sheet N m levels table) run_price prices discount pence
   -- and one that is refused nothing
   pub refused_free : answer ≢ 0 → pence ≡ 0

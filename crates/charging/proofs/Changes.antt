@@ -18,7 +18,7 @@ use Rattle.finite.proofs.Sums.{sum_ext, sum_mul, sum_exchange}
 use Rattle.finite.proofs.Counts.{count_suc, count_none, count_le}
 use Rattle.finite.proofs.Fits.{run_more, run_end}
 use Rattle.counting.specs.Table.{table_of}
-use Rattle.given_sheet.specs.Given.{WellFormed, givenSheet}
+use Rattle.given_sheet.specs.Given.{WellFormed, given_sheet}
 use Rattle.given_sheet.proofs.Sheet.{given_columns, given_level}
 use Rattle.charges.specs.Charge.{changes, change_pence, price_sum, hundredfold, rounded, charge}
 use Rattle.charges.proofs.ChargePromises.{sheet_charged}
@@ -122,12 +122,12 @@ priced_same prices same = sum_ext (length prices) (λ c h. ap (λ (k : ℕ). k *
 
 module _ {N m : ℕ} {levels table : List ℕ} (sheet : WellFormed N m levels table) where
   -- a change in the bytes is one of the sheet
-  change_same : (r c : ℕ) → changes (givenSheet N m levels table) r c ≡ differs table m (r * m) c
+  change_same : (r c : ℕ) → changes (given_sheet N m levels table) r c ≡ differs table m (r * m) c
   unfolding changes differs
   change_same r c = rw (given_level sheet (r + 1) c, given_level sheet r c, run_more r m)
 
   -- a column's price as often as it changes, or at each change
-  column_priced : (c price : ℕ) → change_count table m N c * price ≡ sum (N - 1) (λ r. bit (changes (givenSheet N m levels table) r c) * price)
+  column_priced : (c price : ℕ) → change_count table m N c * price ≡ sum (N - 1) (λ r. bit (changes (given_sheet N m levels table) r c) * price)
   unfolding change_count count
   column_priced c price =
       mul_comm (change_count table m N c) price
@@ -136,20 +136,20 @@ module _ {N m : ℕ} {levels table : List ℕ} (sheet : WellFormed N m levels ta
 
   -- so the sum is the one of 02, however it is added up
   sum_same : (run_price : ℕ) (prices : List ℕ) → length prices ≡ m
-      → N * run_price + priced_counts (change_count table (length prices) N) prices ≡ price_sum (givenSheet N m levels table) run_price prices
-  unfolding price_sum priced_counts change_pence givenSheet table_of
+      → N * run_price + priced_counts (change_count table (length prices) N) prices ≡ price_sum (given_sheet N m levels table) run_price prices
+  unfolding price_sum priced_counts change_pence given_sheet table_of
   sum_same run_price prices many =
       ap (λ (pence : ℕ). N * run_price + pence)
       (rw many
       (sum_ext m (λ c h. column_priced c (get_or prices c 0))
-      ∙ sum_exchange m (N - 1) (λ c r. bit (changes (givenSheet N m levels table) r c) * get_or prices c 0)
-      ∙ sum_ext (N - 1) (λ r h. ap (λ (k : ℕ). sum k (λ c. bit (changes (givenSheet N m levels table) r c) * get_or prices c 0)) (sym (given_columns sheet)))))
+      ∙ sum_exchange m (N - 1) (λ c r. bit (changes (given_sheet N m levels table) r c) * get_or prices c 0)
+      ∙ sum_ext (N - 1) (λ r h. ap (λ (k : ℕ). sum k (λ c. bit (changes (given_sheet N m levels table) r c) * get_or prices c 0)) (sym (given_columns sheet)))))
 
   -- with prices of 32 bits nothing overflows, and what is rounded is 02's hundredfold
   pub record Summed (run_price : ℕ) (prices : List ℕ) (discount sum : ℕ) : Type 0 where
     pub sum_fits : sum < 18446744073709551616
     pub fold_fits : sum * (100 - discount) + 50 < 18446744073709551616
-    pub charge_is : rounded (sum * (100 - discount)) ≡ charge (givenSheet N m levels table) run_price prices discount
+    pub charge_is : rounded (sum * (100 - discount)) ≡ charge (given_sheet N m levels table) run_price prices discount
 
   pub summed : (run_price : ℕ) (prices : List ℕ) (discount : ℕ) → run_price ≤ 4294967295 → ((c : ℕ) → get_or prices c 0 ≤ 4294967295) → length prices ≡ m
       → {changed : ℕ} → changed ≡ priced_counts (change_count table (length prices) N) prices → Summed run_price prices discount (N * run_price + changed)

@@ -16,7 +16,7 @@ use Rattle.sheets.specs.declared.answer.Answer.{Answer}
 use Rattle.sheets.specs.declared.answer.Answer.TheVariants.{Filled, Refused}
 use Rattle.sheets.proofs.Filled.{filled_sound}
 use Rattle.report.specs.Report.{refusal_line, outcome_by}
-use Rattle.given_sheet.specs.Given.{WellFormed, givenSheet}
+use Rattle.given_sheet.specs.Given.{WellFormed, given_sheet}
 use Rattle.layout.specs.Bytes.{Holds, sheet_in}
 use Rattle.layout.specs.declared.Size.{Size}
 use Rattle.layout.proofs.Sheets.{holds_agrees}
@@ -85,8 +85,8 @@ module _ {list table levels scratch : List ℕ} {answer : Answer} {table' levels
         }
 
     -- and looks the same as that of the outcome
-    filled_alike : let of = sheet_of in Agree of.sheet (givenSheet N m levels' table')
-    unfolding givenSheet sheet_in
+    filled_alike : let of = sheet_of in Agree of.sheet (given_sheet N m levels' table')
+    unfolding given_sheet sheet_in
     filled_alike =
         let of = sheet_of in
         let size : Size = record { runs = N; columns = m; spare = spared } in
@@ -95,7 +95,7 @@ module _ {list table levels scratch : List ℕ} {answer : Answer} {table' levels
   -- so what is put of the answer is what is shown of the outcome, where tables that look the same are shown alike
   module _ (shown : Table → List ℕ) {before after : List ℕ} {at end : ℕ} where
     pub filled_put : ((A B : Table) → Agree A B → shown A ≡ shown B) → {N m : ℕ} {spared : ℤ} → answer ≡ Filled N m spared
-        → Put before at (shown (givenSheet N m levels' table')) after end
+        → Put before at (shown (given_sheet N m levels' table')) after end
         → Put before at (outcome_by shown (planned list (length table) (length levels) (length scratch))) after end
     filled_put alike is put = rw ((sheet_of is).planned_is, alike _ _ (filled_alike is)) put
 

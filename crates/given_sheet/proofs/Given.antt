@@ -13,7 +13,7 @@ use lib.ListN.{length, get_or, take}
 use lib.Seq.{get_or-take, length-take-le}
 use Rattle.finite.specs.Sum.{every}
 use Rattle.finite.proofs.Tests.{T_and, every_all, all_every}
-use Rattle.given_sheet.specs.Given.{WellFormed, sizeWithin, buffersLong, countsWithin, entriesBelow, wellFormed}
+use Rattle.given_sheet.specs.Given.{WellFormed, size_within, buffers_long, counts_within, entries_below, well_formed}
 
 -- ---- every number below n
 
@@ -28,15 +28,15 @@ unfolding every
 every_same zero f g same = refl
 every_same (suc n) f g same = ap₂ ◌&&◌ (every_same n f g (λ i h. same i (le_step h))) (same n (lt-suc_self n))
 
-pub counts_next : (levels : List ℕ) (c : ℕ) → countsWithin (c + 1) levels ≡ ((countsWithin c levels && leb 2 (get_or levels c 0)) && leb (get_or levels c 0) 64)
-unfolding countsWithin
+pub counts_next : (levels : List ℕ) (c : ℕ) → counts_within (c + 1) levels ≡ ((counts_within c levels && leb 2 (get_or levels c 0)) && leb (get_or levels c 0) 64)
+unfolding counts_within
 counts_next levels c =
     every_next c (λ k. leb 2 (get_or levels k 0) && leb (get_or levels k 0) 64)
-    ∙ sym (and_assoc (countsWithin c levels) (leb 2 (get_or levels c 0)) (leb (get_or levels c 0) 64))
+    ∙ sym (and_assoc (counts_within c levels) (leb 2 (get_or levels c 0)) (leb (get_or levels c 0) 64))
 
 pub entries_next : (m : ℕ) (levels table : List ℕ) (r : ℕ)
-    → entriesBelow (r + 1) m levels table ≡ (entriesBelow r m levels table && every m (λ c. ltb (get_or table (r * m + c) 0) (get_or levels c 0)))
-unfolding entriesBelow
+    → entries_below (r + 1) m levels table ≡ (entries_below r m levels table && every m (λ c. ltb (get_or table (r * m + c) 0) (get_or levels c 0)))
+unfolding entries_below
 entries_next m levels table r = every_next r (λ i. every m (λ c. ltb (get_or table (i * m + c) 0) (get_or levels c 0)))
 
 -- where the next run of m entries ends, among N of them
@@ -44,12 +44,12 @@ pub run_within : (r m : ℕ) {start N long : ℕ} → start ≡ r * m → r < N 
 run_within r m e h room = omega (arith, e, suc-mul r m, mul-le-mul_right m h)
 
 -- the first m level counts say as much as the whole level list
-counts_part : (m : ℕ) (levels : List ℕ) → countsWithin m (take m levels) ≡ countsWithin m levels
-unfolding countsWithin
+counts_part : (m : ℕ) (levels : List ℕ) → counts_within m (take m levels) ≡ counts_within m levels
+unfolding counts_within
 counts_part m levels = every_same m _ _ (λ c h. ap (λ (x : ℕ). leb 2 x && leb x 64) (get_or-take m levels c 0 h))
 
-entries_part : (N m : ℕ) (levels table : List ℕ) → entriesBelow N m (take m levels) table ≡ entriesBelow N m levels table
-unfolding entriesBelow
+entries_part : (N m : ℕ) (levels table : List ℕ) → entries_below N m (take m levels) table ≡ entries_below N m levels table
+unfolding entries_below
 entries_part N m levels table =
     every_same N _ _ (λ r k. every_same m _ _ (λ c h. ap (ltb (get_or table (r * m + c) 0)) (get_or-take m levels c 0 h)))
 
@@ -71,38 +71,38 @@ passed true e = tt
 passed false e = absurd (true≢false (sym e))
 
 module _ (N m : ℕ) where
-  size_iff : T (sizeWithin N m) ↔ (((1 ≤ N) × (N ≤ 512)) × (1 ≤ m)) × (m ≤ 128)
-  unfolding sizeWithin
+  size_iff : T (size_within N m) ↔ (((1 ≤ N) × (N ≤ 512)) × (1 ≤ m)) × (m ≤ 128)
+  unfolding size_within
   size_iff =
       both_iff (leb 1 N && leb N 512 && leb 1 m) (leb m 128)
       (both_iff (leb 1 N && leb N 512) (leb 1 m) (both_iff (leb 1 N) (leb N 512) (leb_iff 1 N) (leb_iff N 512)) (leb_iff 1 m))
       (leb_iff m 128)
 
   module _ (levels table : List ℕ) where
-    long_iff : T (buffersLong N m levels table) ↔ ((m ≤ length levels) × (N * m ≤ length table))
-    unfolding buffersLong
+    long_iff : T (buffers_long N m levels table) ↔ ((m ≤ length levels) × (N * m ≤ length table))
+    unfolding buffers_long
     long_iff = both_iff (leb m (length levels)) (leb (N * m) (length table)) (leb_iff m (length levels)) (leb_iff (N * m) (length table))
 
-    counts_iff : T (countsWithin m levels) ↔ ((c : ℕ) → c < m → (2 ≤ get_or levels c 0) × (get_or levels c 0 ≤ 64))
-    unfolding countsWithin
+    counts_iff : T (counts_within m levels) ↔ ((c : ℕ) → c < m → (2 ≤ get_or levels c 0) × (get_or levels c 0 ≤ 64))
+    unfolding counts_within
     counts_iff =
         every_iff m (λ c. leb 2 (get_or levels c 0) && leb (get_or levels c 0) 64)
         (λ c. both_iff (leb 2 (get_or levels c 0)) (leb (get_or levels c 0) 64) (leb_iff 2 (get_or levels c 0)) (leb_iff (get_or levels c 0) 64))
 
-    entries_iff : T (entriesBelow N m levels table) ↔ ((r : ℕ) → r < N → (c : ℕ) → c < m → get_or table (r * m + c) 0 < get_or levels c 0)
-    unfolding entriesBelow
+    entries_iff : T (entries_below N m levels table) ↔ ((r : ℕ) → r < N → (c : ℕ) → c < m → get_or table (r * m + c) 0 < get_or levels c 0)
+    unfolding entries_below
     entries_iff =
         every_iff N (λ r. every m (λ c. ltb (get_or table (r * m + c) 0) (get_or levels c 0)))
         (λ r. every_iff m (λ c. ltb (get_or table (r * m + c) 0) (get_or levels c 0)) (λ c. leb_iff (suc (get_or table (r * m + c) 0)) (get_or levels c 0)))
 
     -- a sheet passes the test exactly when it is well-formed
-    pub well_formed_iff : T (wellFormed N m levels table) ↔ WellFormed N m levels table
-    unfolding wellFormed
+    pub well_formed_iff : T (well_formed N m levels table) ↔ WellFormed N m levels table
+    unfolding well_formed
     well_formed_iff =
         let parts =
-        both_iff (sizeWithin N m && buffersLong N m levels table && countsWithin m levels) (entriesBelow N m levels table)
-        (both_iff (sizeWithin N m && buffersLong N m levels table) (countsWithin m levels)
-        (both_iff (sizeWithin N m) (buffersLong N m levels table) size_iff long_iff) counts_iff)
+        both_iff (size_within N m && buffers_long N m levels table && counts_within m levels) (entries_below N m levels table)
+        (both_iff (size_within N m && buffers_long N m levels table) (counts_within m levels)
+        (both_iff (size_within N m) (buffers_long N m levels table) size_iff long_iff) counts_iff)
         entries_iff in (
           λ t.
               let says = parts.0 t in
@@ -129,26 +129,26 @@ module _ (N m : ℕ) where
         )
 
 -- so a sheet that passes it stands
-pub stands_formed : (N m : ℕ) (levels table : List ℕ) → wellFormed N m levels table ≡ true → WellFormed N m levels table
+pub stands_formed : (N m : ℕ) (levels table : List ℕ) → well_formed N m levels table ≡ true → WellFormed N m levels table
 stands_formed N m levels table e = (well_formed_iff N m levels table).0 (passed _ e)
 
 -- ---- the first part that fails decides the test
 
 module _ (N m : ℕ) (levels table : List ℕ) where
-  pub wrong_size : sizeWithin N m ≡ false → false ≡ wellFormed N m levels table
-  unfolding wellFormed
+  pub wrong_size : size_within N m ≡ false → false ≡ well_formed N m levels table
+  unfolding well_formed
   wrong_size e = rw e
 
-  module _ (size : sizeWithin N m ≡ true) where
+  module _ (size : size_within N m ≡ true) where
     -- within the limits the product is small
     pub few_entries : N * m ≤ 65536
     few_entries = let limits = (size_iff N m).0 (passed _ size) in mul-le-mul limits.0.0.1 limits.1
 
-    pub short_buffers : buffersLong N m levels table ≡ false → false ≡ wellFormed N m levels table
-    unfolding wellFormed
+    pub short_buffers : buffers_long N m levels table ≡ false → false ≡ well_formed N m levels table
+    unfolding well_formed
     short_buffers e = rw (size, e)
 
-    module _ (long : buffersLong N m levels table ≡ true) where
+    module _ (long : buffers_long N m levels table ≡ true) where
       -- as many level counts as columns, and room for all entries
       pub counts_many : length (take m levels) ≡ m
       counts_many = length-take-le m levels ((long_iff N m levels table).0 (passed _ long)).0
@@ -156,12 +156,12 @@ module _ (N m : ℕ) (levels table : List ℕ) where
       pub entries_room : N * length (take m levels) ≤ length table
       entries_room = rw counts_many ((long_iff N m levels table).0 (passed _ long)).1
 
-      pub wrong_counts : countsWithin (length (take m levels)) (take m levels) ≡ false → false ≡ wellFormed N m levels table
-      unfolding wellFormed
+      pub wrong_counts : counts_within (length (take m levels)) (take m levels) ≡ false → false ≡ well_formed N m levels table
+      unfolding well_formed
       wrong_counts e = rw (size, long, sym (counts_part m levels) ∙ rw counts_many at e)
 
-      pub entries_decide : countsWithin (length (take m levels)) (take m levels) ≡ true
-          → entriesBelow N (length (take m levels)) (take m levels) table ≡ wellFormed N m levels table
-      unfolding wellFormed
+      pub entries_decide : counts_within (length (take m levels)) (take m levels) ≡ true
+          → entries_below N (length (take m levels)) (take m levels) table ≡ well_formed N m levels table
+      unfolding well_formed
       entries_decide e =
           rw (size, long, sym (counts_part m levels) ∙ rw counts_many at e, counts_many) (entries_part N m levels table)

@@ -3,12 +3,12 @@
 
 ghost use Rattle.std.specs.Prelude.{◌≡◌, ◌+◌, ◌*◌, ◌≤◌, ltb, length, get_or};
 ghost use Rattle.finite.specs.Sum.{every};
-ghost use Rattle.given_sheet.specs.Given.{sizeWithin, countsWithin, entriesBelow, wellFormed};
+ghost use Rattle.given_sheet.specs.Given.{size_within, counts_within, entries_below, well_formed};
 
 // Whether a sheet is taken: its runs, columns and level counts are within the limits, every entry is below its level count, and both buffers are
 // long enough. Runs and columns may be any numbers, so their limits are asked before anything is multiplied or looked up.
 pub fn is_well_formed(runs: usize, columns: usize, levels: &[u8], table: &[u8]) -> bool
-    ensures { result ≡ wellFormed runs columns levels.now table.now }
+    ensures { result ≡ well_formed runs columns levels.now table.now }
 {
     if !is_size_within(runs, columns) {
         return false;
@@ -24,14 +24,14 @@ pub fn is_well_formed(runs: usize, columns: usize, levels: &[u8], table: &[u8]) 
 
 // 1 to 512 runs, 1 to 128 columns.
 fn is_size_within(runs: usize, columns: usize) -> bool
-    ensures { result ≡ sizeWithin runs columns }
+    ensures { result ≡ size_within runs columns }
 {
     (1 <= runs) & (runs <= 512) & (1 <= columns) & (columns <= 128)
 }
 
 // Whether every level count is one of 2 to 64.
 fn are_counts_within(counts: &[u8]) -> bool
-    ensures { result ≡ countsWithin (length counts.now) counts.now }
+    ensures { result ≡ counts_within (length counts.now) counts.now }
 {
     let mut all = true;
     let mut c = 0;
@@ -45,7 +45,7 @@ fn are_counts_within(counts: &[u8]) -> bool
 // Whether every entry of so many runs is below the level count of its column.
 fn are_entries_below(table: &[u8], runs: usize, counts: &[u8]) -> bool
     requires { runs * length counts.now ≤ length table.now }
-    ensures { result ≡ entriesBelow runs (length counts.now) counts.now table.now }
+    ensures { result ≡ entries_below runs (length counts.now) counts.now table.now }
 {
     let mut all = true;
     let mut run = 0;

@@ -13,7 +13,7 @@ use lib.ListN.{length, take}
 use Rattle.counting.specs.Table.{Table, table_of}
 use Rattle.pieces.specs.Padded.{zeros, padded}
 use Rattle.pieces.proofs.Padded.{padded_front}
-use Rattle.given_sheet.specs.Given.{WellFormed, wellFormed, givenSheet}
+use Rattle.given_sheet.specs.Given.{WellFormed, well_formed, given_sheet}
 use Rattle.given_sheet.proofs.Given.{well-formed-iff, stands-formed}
 use Rattle.given_sheet.proofs.Sheet.{given_columns}
 use Rattle.page_text.specs.Pages.{page_count, page_text}
@@ -32,11 +32,11 @@ module _ (N m : ℕ) (levels table : List ℕ) (number room : ℕ) where
   abbrev pub PageSettled : ℕ → List ℕ → Type 0
   PageSettled answer bytes = (answer ≡ page_answer N m levels table number room) × (bytes ≡ page_bytes N m levels table number room)
 
-  pub sheet_refused : wellFormed N m levels table ≡ false → PageSettled 1 (zeros room)
+  pub sheet_refused : well_formed N m levels table ≡ false → PageSettled 1 (zeros room)
   unfolding page_bytes page_answer
   sheet_refused e = rw e (refl, refl)
 
-  module _ (stands : wellFormed N m levels table ≡ true) where
+  module _ (stands : well_formed N m levels table ≡ true) where
     pub buffer_refused : room < 4800 → PageSettled 12 (zeros room)
     unfolding page_bytes page_answer
     buffer_refused h = rw (stands, lt-leb 4800 room h) (refl, refl)
@@ -46,7 +46,7 @@ module _ (N m : ℕ) (levels table : List ℕ) (number room : ℕ) where
       unfolding page_bytes page_answer
       page_refused e = rw (stands, le-leb 4800 room long, e) (refl, refl)
 
-      pub page_printed : (leb 1 number && leb number (page_count N m)) ≡ true → PageSettled 0 (padded room (page_text (givenSheet N m levels table) number))
+      pub page_printed : (leb 1 number && leb number (page_count N m)) ≡ true → PageSettled 0 (padded room (page_text (given_sheet N m levels table) number))
       unfolding page_bytes page_answer
       page_printed e = rw (stands, le-leb 4800 room long, e) (refl, refl)
 
@@ -98,10 +98,10 @@ module _ (N m : ℕ) (levels table : List ℕ) (number room : ℕ) where
       }
 
   which : Case (page_answer N m levels table number room)
-  which = go (wellFormed N m levels table) refl
+  which = go (well_formed N m levels table) refl
     where
       -- whether there is such a page
-      paged : wellFormed N m levels table ≡ true → WellFormed N m levels table → 4800 ≤ room → Case (page_answer N m levels table number room)
+      paged : well_formed N m levels table ≡ true → WellFormed N m levels table → 4800 ≤ room → Case (page_answer N m levels table number room)
       paged stands w long =
           by_cases (dec_lt number 1)
           (λ (z : number < 1).
@@ -118,7 +118,7 @@ module _ (N m : ℕ) (levels table : List ℕ) (number room : ℕ) where
           let there : (leb 1 number && leb number (page_count N m)) ≡ true = rw (le-leb 1 number least, le-leb number (page_count N m) within) in
           subst Case (page_printed N m levels table number room stands long there).0 (fine w long least within)))
 
-      go : (b : Bool) → wellFormed N m levels table ≡ b → Case (page_answer N m levels table number room)
+      go : (b : Bool) → well_formed N m levels table ≡ b → Case (page_answer N m levels table number room)
       go false e =
           subst Case (sheet_refused N m levels table number room e).0 (bad (λ w. absurd (subst T e ((well-formed-iff N m levels table).1 w))))
       go true e =
@@ -128,7 +128,7 @@ module _ (N m : ℕ) (levels table : List ℕ) (number room : ℕ) where
           (λ h. paged e w (omega arith))
 
   -- so where the tests are passed, the conditions hold
-  pub passed_conditions : wellFormed N m levels table ≡ true → 4800 ≤ room → (leb 1 number && leb number (page_count N m)) ≡ true
+  pub passed_conditions : well_formed N m levels table ≡ true → 4800 ≤ room → (leb 1 number && leb number (page_count N m)) ≡ true
       → WellFormed N m levels table × (4800 ≤ room) × (1 ≤ number) × (number ≤ page_count N m)
   passed_conditions stands long there =
       (case_answers (subst Case (sym (page_printed N m levels table number room stands long there).0) which)).printed.0 refl
@@ -138,7 +138,7 @@ module _ (N m : ℕ) (levels table : List ℕ) (number room : ℕ) where
 -- what is printed is faithful
 module _ {N m : ℕ} {levels table : List ℕ} (sheet : WellFormed N m levels table) {number : ℕ} (one : 1 ≤ number) (most : number ≤ page_count N m) where
   abbrev sheet_given : Table
-  sheet_given = givenSheet N m levels table
+  sheet_given = given_sheet N m levels table
 
   printed_text : (room : ℕ) → page_answer N m levels table number room ≡ 0 → take 4800 (page_bytes N m levels table number room) ≡ page_text sheet_given number
   unfolding page_bytes
@@ -148,7 +148,7 @@ module _ {N m : ℕ} {levels table : List ℕ} (sheet : WellFormed N m levels ta
       (page_length sheet_given number (given_room sheet) (omega (arith, pages_most N m sheet.runs_most sheet.columns_most))))
 
   text_faithful : Faithful sheet_given number (page_text sheet_given number)
-  unfolding givenSheet table_of
+  unfolding given_sheet table_of
   text_faithful =
       faithful sheet_given number (given_room sheet) sheet.runs_some one (rw (given_columns sheet) most)
 

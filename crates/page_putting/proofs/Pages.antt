@@ -17,7 +17,7 @@ use Rattle.page_text.specs.Pages.{blanks, right_aligned, in_three, closed, up_to
 use Rattle.page_text.proofs.Counts.{pages_most, first_run_there, first_column_there}
 use Rattle.page_text.proofs.Lines.{line_length, page_split}
 use Rattle.page_text.proofs.Rooms.{given_room}
-use Rattle.given_sheet.specs.Given.{WellFormed, givenSheet}
+use Rattle.given_sheet.specs.Given.{WellFormed, given_sheet}
 use Rattle.given_sheet.proofs.Sheet.{given_columns, given_count, given_level}
 use Rattle.page_putting.specs.Part.{part_of, PartIn, part_line}
 use Rattle.page_putting.specs.declared.Part.{Part}
@@ -25,7 +25,7 @@ use Rattle.page_putting.proofs.Parts.{slice_map, levels_within}
 
 module _ {N m : ℕ} {levels table : List ℕ} (sheet : WellFormed N m levels table) {n : ℕ} (one : 1 ≤ n) (most : n ≤ page_count N m) {part : Part} (is : part ≡ part_of N m n) where
   abbrev T : Table
-  T = givenSheet N m levels table
+  T = given_sheet N m levels table
 
   pub part_in : PartIn N m table part
   unfolding part_of
@@ -52,7 +52,7 @@ module _ {N m : ℕ} {levels table : List ℕ} (sheet : WellFormed N m levels ta
 
   -- the columns on the page
   columns_here : columns_on T n ≡ from part.column (part.end - part.column)
-  unfolding columns_on up_to part_of givenSheet table_of
+  unfolding columns_on up_to part_of given_sheet table_of
   columns_here =
       let first = first_column N n in
       let many : first + min 25 (m - first) - first ≡ min 25 (m - first) = omega arith in
@@ -81,7 +81,7 @@ module _ {N m : ℕ} {levels table : List ℕ} (sheet : WellFormed N m levels ta
       (λ c h. ap (λ (a : ℕ). get_or levels a 0) (let none : 0 + c ≡ c = omega arith in none) ∙ sym (given_count sheet h)))
 
   run_line_lem : (r : ℕ) → part_line N m table part r ≡ run_line T n r
-  unfolding part_line run_line givenSheet table_of
+  unfolding part_line run_line given_sheet table_of
   run_line_lem r =
       by_cases (dec_lt r N)
       (λ (h : r < N).
@@ -114,7 +114,7 @@ module _ {N m : ℕ} {levels table : List ℕ} (sheet : WellFormed N m levels ta
 
       -- and the runs
       pub page_put : {d : List ℕ} {k : ℕ} → Put c j (flat_map (λ q. part_line N m table part (part.run + q)) (from 0 58)) d k → Put a at (page_text T n) d k
-      unfolding part_of givenSheet table_of
+      unfolding part_of given_sheet table_of
       page_put r =
           let start : part.run ≡ first_run N n = ap (λ (x : Part). x.run) is in
           let lines =

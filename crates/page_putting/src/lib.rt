@@ -6,7 +6,7 @@ ghost use mathlib.Core.List.{flat_map};
 ghost use Rattle.finite.specs.Lists.{from};
 ghost use Rattle.buffers.specs.Put.{Put};
 ghost use Rattle.page_text.specs.Pages.{page_count, page_text};
-ghost use Rattle.given_sheet.specs.Given.{WellFormed, givenSheet};
+ghost use Rattle.given_sheet.specs.Given.{WellFormed, given_sheet};
 ghost use Rattle.page_putting.specs.Part.{part_of, part_line, PartIn};
 
 use level_lines::{put_count_line, put_run_line};
@@ -33,7 +33,7 @@ pub fn put_page(
 ) -> usize
     requires well_formed { WellFormed runs columns levels.now table.now }
     requires le_number { (1 ≤ number) × (number ≤ page_count runs columns) × (at + 4800 ≤ length buf.old) }
-    ensures { Put buf.old at (page_text (givenSheet runs columns levels.now table.now) number) buf.new result }
+    ensures { Put buf.old at (page_text (given_sheet runs columns levels.now table.now) number) buf.new result }
 {
     let part = page_part(runs, columns, number);
     let first = part.column;

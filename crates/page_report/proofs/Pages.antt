@@ -12,7 +12,7 @@ use Rattle.buffers.specs.Put.{Put}
 use Rattle.buffers.proofs.Puts.{put_none, put_join}
 use Rattle.counting.specs.Table.{Table, columns, table_of}
 use Rattle.pieces.proofs.Lists.{from_next, flat_map_append}
-use Rattle.given_sheet.specs.Given.{WellFormed, givenSheet}
+use Rattle.given_sheet.specs.Given.{WellFormed, given_sheet}
 use Rattle.given_sheet.proofs.Sheet.{given_columns}
 use Rattle.page_text.specs.Pages.{page_count, page_text}
 use Rattle.page_text.proofs.Counts.{pages_most}
@@ -41,11 +41,11 @@ asked_there n k e = let both = (T_and (leb 1 n) (leb n k)).0 (subst T (sym e) tt
 
 module _ {N m : ℕ} {levels table : List ℕ} (sheet : WellFormed N m levels table) where
   abbrev sheet_given : Table
-  sheet_given = givenSheet N m levels table
+  sheet_given = given_sheet N m levels table
 
   -- as many pages as its runs and columns make
   as_many : page_count sheet_given.runs (columns sheet_given) ≡ page_count N m
-  unfolding givenSheet table_of
+  unfolding given_sheet table_of
   as_many = ap (page_count N) (given_columns sheet)
 
   pub few_pages : page_count N m ≤ 54

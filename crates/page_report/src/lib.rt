@@ -3,7 +3,7 @@
 
 ghost use Rattle.std.specs.Prelude.{◌≤◌, length};
 ghost use Rattle.buffers.specs.Put.{Put};
-ghost use Rattle.given_sheet.specs.Given.{WellFormed, givenSheet};
+ghost use Rattle.given_sheet.specs.Given.{WellFormed, given_sheet};
 ghost use Rattle.page_argument.specs.declared.Asked.TheVariants.{One};
 ghost use Rattle.page_report.specs.PageReport.{all_pages, sheet_pages, page_room};
 
@@ -23,7 +23,7 @@ pub fn put_asked(
 ) -> usize
     requires well_formed { WellFormed runs columns levels.now table.now }
     requires page_room_in_bounds { page_room ≤ length buf.old }
-    ensures { Put buf.old 0 (sheet_pages asked (givenSheet runs columns levels.now table.now)) buf.new result }
+    ensures { Put buf.old 0 (sheet_pages asked (given_sheet runs columns levels.now table.now)) buf.new result }
 {
     match asked {
         Asked::All => put_all_pages(table, levels, runs, columns, buf),
@@ -35,7 +35,7 @@ pub fn put_asked(
 fn put_all_pages(table: &[u8], levels: &[u8], runs: usize, columns: usize, buf: &mut [u8]) -> usize
     requires well_formed { WellFormed runs columns levels.now table.now }
     requires page_room_in_bounds { page_room ≤ length buf.old }
-    ensures { Put buf.old 0 (all_pages (givenSheet runs columns levels.now table.now)) buf.new result }
+    ensures { Put buf.old 0 (all_pages (given_sheet runs columns levels.now table.now)) buf.new result }
 {
     let count = page_count(runs, columns);
     let mut place = 0;
@@ -58,7 +58,7 @@ fn put_one_page(
 ) -> usize
     requires well_formed { WellFormed runs columns levels.now table.now }
     requires page_room_in_bounds { page_room ≤ length buf.old }
-    ensures { Put buf.old 0 (sheet_pages (One number) (givenSheet runs columns levels.now table.now)) buf.new result }
+    ensures { Put buf.old 0 (sheet_pages (One number) (given_sheet runs columns levels.now table.now)) buf.new result }
 {
     if !((1 <= number) & (number <= page_count(runs, columns))) {
         return put_refusal(buf, 0, [13, 0, 0, 0, 0, 0, 0]);

@@ -4,12 +4,12 @@ use mathlib.Core.List.{List}
 use Prim.Native.Nat.{ℕ, ◌<◌}
 use native.Mathlib.Omega.{arith}
 use Rattle.counting.specs.Table.{InRange, table_of}
-use Rattle.given_sheet.specs.Given.{WellFormed, givenSheet}
+use Rattle.given_sheet.specs.Given.{WellFormed, given_sheet}
 use Rattle.given_sheet.proofs.Sheet.{given_columns, given_count, given_level}
 use Rattle.page_text.specs.Pages.{HasRoom}
 
-pub given_room : {N m : ℕ} {levels table : List ℕ} → WellFormed N m levels table → HasRoom (givenSheet N m levels table)
-unfolding InRange givenSheet table_of
+pub given_room : {N m : ℕ} {levels table : List ℕ} → WellFormed N m levels table → HasRoom (given_sheet N m levels table)
+unfolding InRange given_sheet table_of
 given_room {N} {m} {levels} {table} sheet =
     let many = given_columns sheet in
     record {

@@ -156,11 +156,11 @@ within_block before [] after w = w
 within_block before (c ∷ block) after w = pick (picked_middle before (block ++ after)) (within_block before block after w)
 
 module _ (us : List ℕ) where
-  columns_picked : (before : List ℕ) {f : ℕ} {rest is ds : List ℕ} → Picked f rest is
+  columns_picked : {f : ℕ} (before : List ℕ) {rest is ds : List ℕ} → Picked f rest is
       → Within ds (before ++ columns_of us rest) → Within (factor_columns us f ++ ds) (before ++ columns_of us is)
   unfolding columns_of
-  columns_picked before {f} (here {rest}) w = within_block before (factor_columns us f) (columns_of us rest) w
-  columns_picked before {f} {ds} (there {x} {rest} {l} p) w =
+  columns_picked {f} before (here {rest}) w = within_block before (factor_columns us f) (columns_of us rest) w
+  columns_picked {f} before {ds} (there {x} {rest} {l} p) w =
       let block = factor_columns us x in
       subst (λ l'. Within (factor_columns us f ++ ds) l') (append_assoc before block (columns_of us l))
       (columns_picked (before ++ block) p (subst (Within ds) (sym (append_assoc before block (columns_of us rest))) w))

@@ -7,7 +7,7 @@ use native.Mathlib.Omega.{arith}
 use borrow.Author.Rules.{rules}
 use borrow.Author.Tests.{not-true, not-false}
 use lib.ListN.{length, get_or}
-use Rattle.given_sheet.specs.Given.{wellFormed}
+use Rattle.given_sheet.specs.Given.{well_formed}
 use Rattle.given_sheet.proofs.Given.{stands-formed}
 use Rattle.charges.proofs.ChargePromises.{sheet_refused, prices_refused, sheet_priced, served, charge_promised}
 use Rattle.charging.proofs.Changes.{Summed, summed}
@@ -33,7 +33,7 @@ returns c =
     (sheet_refused a.runs a.columns a.levels.now a.table.now a.run_price a.prices.now a.discount (sym c.before.is-well-formed.ensures ∙ not-true _ c.if1.true))
 
 -- the sheet stands
-stands : (c : tie.Else1) → let a = c.before.before.before.before.before.args in wellFormed a.runs a.columns a.levels.now a.table.now ≡ true
+stands : (c : tie.Else1) → let a = c.before.before.before.before.before.args in well_formed a.runs a.columns a.levels.now a.table.now ≡ true
 stands c = sym c.before.is-well-formed.ensures ∙ not-false _ c.if1.false
 
 returns_2 : tie.Need-returns-2

@@ -5,19 +5,19 @@ use native.Mathlib.Omega.{arith}
 use borrow.Author.Rules.{rules}
 use lib.ListN.{length}
 use Rattle.finite.specs.Sum.{every}
-use Rattle.given_sheet.specs.Given.{countsWithin}
+use Rattle.given_sheet.specs.Given.{counts_within}
 use Rattle.given_sheet.proofs.Given.{counts-next}
 use Rattle.given_sheet.proofs.are_counts_within.Statement.{statement}
 use Rattle.given_sheet.proofs.are_counts_within.Tie as tie
 
 abbrev invariant_loop : tie.invariant_loop
-invariant_loop counts all₀ c₀ all c = (c ≤ length counts) × (all ≡ countsWithin c counts)
+invariant_loop counts all₀ c₀ all c = (c ≤ length counts) × (all ≡ counts_within c counts)
 
 abbrev decreases_loop : tie.decreases_loop
 decreases_loop counts all₀ c₀ all c = length counts - c
 
 loop_holds : tie.Need-loop-init invariant_loop decreases_loop
-unfolding countsWithin every
+unfolding counts_within every
 loop_holds c = (search rules, refl)
 
 shared_slice_read_all : tie.Need-shared-slice-read-all invariant_loop decreases_loop

@@ -6,20 +6,20 @@ use native.Mathlib.Omega.{arith}
 use borrow.Author.Rules.{rules}
 use lib.ListN.{length}
 use Rattle.finite.specs.Sum.{every}
-use Rattle.given_sheet.specs.Given.{entriesBelow}
+use Rattle.given_sheet.specs.Given.{entries_below}
 use Rattle.given_sheet.proofs.Given.{entries_next, run-within}
 use Rattle.given_sheet.proofs.are_entries_below.Statement.{statement}
 use Rattle.given_sheet.proofs.are_entries_below.Tie as tie
 
 abbrev invariant_loop : tie.invariant_loop
 invariant_loop table runs counts all₀ run₀ start₀ all run start =
-    (run ≤ runs) × (start ≡ run * length counts) × (all ≡ entriesBelow run (length counts) counts table)
+    (run ≤ runs) × (start ≡ run * length counts) × (all ≡ entries_below run (length counts) counts table)
 
 abbrev decreases_loop : tie.decreases_loop
 decreases_loop table runs counts all₀ run₀ start₀ all run start = runs - run
 
 loop_holds : tie.Need-loop-init invariant_loop decreases_loop
-unfolding entriesBelow every
+unfolding entries_below every
 loop_holds c = (search rules, omega arith, refl)
 
 within : (c : tie.In-loop invariant_loop decreases_loop) → c.before.loop.start + length c.before.before.before.before.args.counts.now ≤ length c.before.before.before.before.args.table.now

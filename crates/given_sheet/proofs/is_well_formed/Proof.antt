@@ -4,7 +4,7 @@ use mathlib.Core.Bool.{true}
 use native.Mathlib.Omega.{arith}
 use borrow.Author.Rules.{rules}
 use borrow.Author.Tests.{not-true, not-false}
-use Rattle.given_sheet.specs.Given.{sizeWithin, buffersLong}
+use Rattle.given_sheet.specs.Given.{size_within, buffers_long}
 use Rattle.given_sheet.proofs.Given.{few-entries, counts-many, entries-room, wrong_size, short-buffers, wrong-counts, entries-decide}
 use Rattle.given_sheet.proofs.is_well_formed.Statement.{statement}
 use Rattle.given_sheet.proofs.is_well_formed.Tie as tie
@@ -16,18 +16,18 @@ returns : tie.Need-returns
 returns c = wrong_size _ _ _ _ (sym c.before.is-size-within.ensures ∙ not-true _ c.if1.true)
 
 -- the size is within the limits
-sized : (c : tie.Else1) → sizeWithin c.before.before.before.before.args.runs c.before.before.before.before.args.columns ≡ true
+sized : (c : tie.Else1) → size_within c.before.before.before.before.args.runs c.before.before.before.before.args.columns ≡ true
 sized c = sym c.before.is-size-within.ensures ∙ not-false _ c.if1.false
 
 mul_if2 : tie.Need-overflow-mul-if2
 mul_if2 c = let a = c.before.before.before.before.args in omega (arith, few-entries _ _ a.levels.now a.table.now (sized c))
 
 returns_2 : tie.Need-returns-2
-returns_2 c = short-buffers _ _ _ _ (sized c.before) (unfold buffersLong in not-true _ c.if2.true)
+returns_2 c = short-buffers _ _ _ _ (sized c.before) (unfold buffers_long in not-true _ c.if2.true)
 
 -- and the buffers are long enough
-long : (c : tie.Else2) → let a = c.before.before.before.before.before.args in buffersLong a.runs a.columns a.levels.now a.table.now ≡ true
-unfolding buffersLong
+long : (c : tie.Else2) → let a = c.before.before.before.before.before.args in buffers_long a.runs a.columns a.levels.now a.table.now ≡ true
+unfolding buffers_long
 long c = not-false _ c.if2.false
 
 slice_aggregate_are_counts_within : tie.Need-slice-aggregate-are-counts-within

@@ -7,14 +7,14 @@ use Rattle.finite.specs.Lists.{from}
 use Rattle.buffers.specs.Put.{Put}
 use Rattle.buffers.proofs.Puts.{put_length}
 use Rattle.page_text.specs.Pages.{page_text}
-use Rattle.given_sheet.specs.Given.{givenSheet}
+use Rattle.given_sheet.specs.Given.{given_sheet}
 use Rattle.page_report.proofs.Pages.{pages_none, pages_next, few_pages, page_end, all_put}
 use Rattle.page_report.proofs.put_all_pages.Statement.{statement}
 use Rattle.page_report.proofs.put_all_pages.Tie as tie
 
 abbrev invariant_loop : tie.invariant_loop
 invariant_loop table levels runs columns buf₀ count place₀ before₀ buf place before =
-    ((before ≤ count) × (place ≡ 4800 * before)) × Put buf₀ 0 (flat_map (page_text (givenSheet runs columns levels table)) (from 1 before)) buf place
+    ((before ≤ count) × (place ≡ 4800 * before)) × Put buf₀ 0 (flat_map (page_text (given_sheet runs columns levels table)) (from 1 before)) buf place
 
 abbrev decreases_loop : tie.decreases_loop
 decreases_loop table levels runs columns buf₀ count place₀ before₀ buf place before = count - before

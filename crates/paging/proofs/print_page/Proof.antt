@@ -9,7 +9,7 @@ use lib.Dec.{leb}
 use lib.ListN.{length}
 use Rattle.page_text.specs.Pages.{page_count, page_text}
 use Rattle.pieces.proofs.Padded.{put_padded}
-use Rattle.given_sheet.specs.Given.{wellFormed, givenSheet}
+use Rattle.given_sheet.specs.Given.{well_formed, given_sheet}
 use Rattle.given_sheet.proofs.Given.{stands-formed}
 use Rattle.page_promise.proofs.PagePromises.{passed_conditions, sheet_refused, buffer_refused, page_refused, page_printed, page_promised}
 use Rattle.paging.proofs.print_page.Statement.{statement}
@@ -31,7 +31,7 @@ returns c =
     page_promised _ _ _ _ _ _ (settled.0, c.before.before.before.before.clear.ensures ∙ settled.1)
 
 -- the sheet stands
-stands : (c : tie.Else1) → let a = c.before.before.before.before.before.before.before.before.before.args in wellFormed a.runs a.columns a.levels.now a.table.now ≡ true
+stands : (c : tie.Else1) → let a = c.before.before.before.before.before.before.before.before.before.args in well_formed a.runs a.columns a.levels.now a.table.now ≡ true
 stands c = sym c.before.is-well-formed.ensures ∙ not-false _ c.if1.false
 
 same_length_2 : tie.Need-same-length-2
@@ -85,7 +85,7 @@ returns_4 c =
     let cleared = on.before.before.before.before.before.clear in
     let a = on.before.before.before.before.before.before.before.before.before.before.args in
     let settled = page_printed a.runs a.columns a.levels.now a.table.now a.number (length a.page.now) (stands on.before) (long on) (there c.before.before.before.before) in
-    page_promised _ _ _ _ _ _ (settled.0, put_padded {bytes = page_text (givenSheet a.runs a.columns a.levels.now a.table.now) a.number} (length a.page.now) cleared.ensures c.before.before.put-page.ensures ∙ settled.1)
+    page_promised _ _ _ _ _ _ (settled.0, put_padded {bytes = page_text (given_sheet a.runs a.columns a.levels.now a.table.now) a.number} (length a.page.now) cleared.ensures c.before.before.put-page.ensures ∙ settled.1)
 
 pub print_page_spec : {M : Type 1} → statement M
 print_page_spec =

@@ -1,0 +1,28 @@
+-- `list_steps::steps` meets its contract. The invariant: reading what is left from the cursor on gives the answer of the whole.
+use mathlib.Core.Path.{sym, ◌∙◌}
+use Rattle.order.specs.Grammar.{read_step}
+use Rattle.order.proofs.Answers.{stage_value, stage_refused, times_on, times_refused, times_done}
+use Rattle.list_steps.proofs.steps.Goals as goal
+
+pub returns-in-Refused : goal.returns-in-Refused
+returns-in-Refused c =
+    let a = c.args in
+    let at_loop = c.loop-left in
+    let e = stage_refused _ _ (sym c.step.ensures ∙ c.in-Refused.is) in
+    sym (times_refused read_step a.list.now at_loop.c.at at_loop.left c.loop-left-test.true e)
+    ∙ at_loop.invariant
+
+pub loop-left-preserved : goal.loop-left-preserved
+loop-left-preserved c =
+    let a = c.args in
+    let at_loop = c.loop-left in
+    stage_value _ _ (sym c.step.ensures ∙ c.in-Found.is) λ g kind from e.
+    sym (times_on read_step a.list.now at_loop.c.at at_loop.left c.loop-left-test.true e)
+    ∙ at_loop.invariant
+
+pub returns : goal.returns
+returns c =
+    let a = c.args in
+    let at_loop = c.loop-left in
+    sym (times_done read_step a.list.now at_loop.c.at at_loop.left c.loop-left-test.false)
+    ∙ at_loop.invariant
