@@ -10,7 +10,7 @@ invariant-loop-at l =
     (l.start ≤ l.at)
     × (l.at ≤ l.end)
     × (l.sum < l.s)
-    × (record { l.rest = l.rest; l.sum = l.sum } ≡ combined l.s l.entries l.at l.end (record { l.rest = l.initial.rest; l.sum = l.initial.sum }))
+    × (record { rest = l.rest; sum = l.sum } ≡ combined l.s l.entries l.at l.end (record { rest = l.initial.rest; sum = l.initial.sum }))
 
 abbrev pub decreases-loop-at : goal.decreases-loop-at
 decreases-loop-at l = l.at

@@ -13,12 +13,13 @@ put_row-after_levels-requires c =
 
 pub put_runs-requires-clause-columns_in_bounds : goal.put_runs-requires-clause-columns_in_bounds
 unfolding Bytes
-put_runs-requires-clause-columns_in_bounds c = let bytes : Bytes c.args.levels.now = λ k h. (c.shared_slice_known-1.given k).fits in
+put_runs-requires-clause-columns_in_bounds c =
+    let bytes : Bytes c.args.levels.now = λ k h. (c.type_inv.levels k).fits in
     let fits = c.requires.table_in_buffers in
     let word = sfits_to_z (Fits-of_z c.ranges.spare) in
-    let room = runs_room fits c.put-header.ensures (omega (arith, fits)) (omega (arith, fits)) word c.put_row-after_levels.ensures in room bytes c.requires.answer_room_in_bounds
+    let room = runs_room fits c.put_header-after_header.ensures (omega (arith, fits)) (omega (arith, fits)) word c.put_row-after_levels.ensures in room bytes c.requires.answer_room_in_bounds
 
 pub returns : goal.returns
 returns c =
     rw (← to_z-of_z c.ranges.spare)
-    (put_printed c.requires.table_in_buffers _ c.put-header.ensures c.put_row-after_levels.ensures c.put_runs.ensures)
+    (put_printed c.requires.table_in_buffers _ c.put_header-after_header.ensures c.put_row-after_levels.ensures c.put_runs.ensures)
