@@ -8,64 +8,84 @@ ghost use Rattle.findings.specs.Written.{WrittenTable, WrittenMatrix, WrittenGen
 use counting::verdict::{GeneratorFinding, MatrixFinding, TableFault, TableFinding};
 use digits::digit_values;
 use generator_check::check_generator;
-use libc::STDOUT_FILENO;
 use matrix_check::check_matrix;
+use std::io;
 use table_check::check_table;
 
 // The table whose runs the digits of `text` are, one run after the other.
-pub fn report_table(name: &[u8], text: &[u8], levels: &[u8], runs: usize)
+pub fn report_table(
+    rt: &impl Print,
+    name: &[u8],
+    text: &[u8],
+    levels: &[u8],
+    runs: usize,
+) -> io::Result<()>
     requires { WrittenTable text.now levels.now runs }
 {
     let mut cells = [0u8; 1024];
     digit_values(text, &mut cells);
     let size = text.len();
     let verdict = check_table(&cells[..size], levels, runs);
-    print(name);
+    print(rt, name)?;
     let finding = verdict.finding;
-    print_table_finding(finding);
+    print_table_finding(rt, finding)
 }
 
 // The matrix whose rows the digits of `text` are, one row after the other.
-pub fn report_matrix(name: &[u8], text: &[u8], rows: usize, columns: usize, p: usize)
+pub fn report_matrix(
+    rt: &impl Print,
+    name: &[u8],
+    text: &[u8],
+    rows: usize,
+    columns: usize,
+    p: usize,
+) -> io::Result<()>
     requires { WrittenMatrix text.now rows columns p }
 {
     let mut entries = [0u8; 1024];
     digit_values(text, &mut entries);
     let size = text.len();
     let finding = check_matrix(&entries[..size], rows, columns, p);
-    print(name);
-    print_matrix_finding(finding);
+    print(rt, name)?;
+    print_matrix_finding(rt, finding)
 }
 
 // The generator whose rows the digits of `text` are, one row after the other.
-pub fn report_generator(name: &[u8], text: &[u8], t: usize, s: u8, widths: &[u8])
+pub fn report_generator(
+    rt: &impl Print,
+    name: &[u8],
+    text: &[u8],
+    t: usize,
+    s: u8,
+    widths: &[u8],
+) -> io::Result<()>
     requires { WrittenGenerator text.now t s widths.now }
 {
     let mut entries = [0u8; 1024];
     digit_values(text, &mut entries);
     let size = text.len();
     let finding = check_generator(&entries[..size], t, s, widths);
-    print(name);
-    print_generator_finding(finding);
+    print(rt, name)?;
+    print_generator_finding(rt, finding)
 }
 
-fn print_table_finding(finding: TableFinding) {
+fn print_table_finding(rt: &impl Print, finding: TableFinding) -> io::Result<()> {
     match finding {
-        TableFinding::Passes => print(b": passes\n"),
-        TableFinding::Fails(fault) => print_table_fault(fault),
+        TableFinding::Passes => print(rt, b": passes\n"),
+        TableFinding::Fails(fault) => print_table_fault(rt, fault),
     }
 }
 
-fn print_table_fault(fault: TableFault) {
+fn print_table_fault(rt: &impl Print, fault: TableFault) -> io::Result<()> {
     match fault {
         TableFault::Column {
             column,
             level,
             times,
         } => {
-            print_number(b": fails, column ", column);
-            print_number(b", level ", level);
-            print_number(b", times ", times);
+            print_number(rt, b": fails, column ", column)?;
+            print_number(rt, b", level ", level)?;
+            print_number(rt, b", times ", times)?;
         }
         TableFault::Pair {
             first,
@@ -74,47 +94,47 @@ fn print_table_fault(fault: TableFault) {
             second_level,
             times,
         } => {
-            print_two(b": fails, columns ", first, second);
-            print_two(b", levels ", first_level, second_level);
-            print_number(b", times ", times);
+            print_two(rt, b": fails, columns ", first, second)?;
+            print_two(rt, b", levels ", first_level, second_level)?;
+            print_number(rt, b", times ", times)?;
         }
     }
-    print(b"\n");
+    print(rt, b"\n")
 }
 
-fn print_matrix_finding(finding: MatrixFinding) {
+fn print_matrix_finding(rt: &impl Print, finding: MatrixFinding) -> io::Result<()> {
     match finding {
-        MatrixFinding::Passes => print(b": passes\n"),
+        MatrixFinding::Passes => print(rt, b": passes\n"),
         MatrixFinding::Fails(fault) => {
-            print_two(b": fails, columns ", fault.first, fault.second);
-            print_number(b", difference ", fault.difference);
-            print_number(b", times ", fault.times);
-            print(b"\n");
+            print_two(rt, b": fails, columns ", fault.first, fault.second)?;
+            print_number(rt, b", difference ", fault.difference)?;
+            print_number(rt, b", times ", fault.times)?;
+            print(rt, b"\n")
         }
     }
 }
 
-fn print_generator_finding(finding: GeneratorFinding) {
+fn print_generator_finding(rt: &impl Print, finding: GeneratorFinding) -> io::Result<()> {
     match finding {
-        GeneratorFinding::Passes => print(b": passes\n"),
+        GeneratorFinding::Passes => print(rt, b": passes\n"),
         GeneratorFinding::Fails(fault) => {
-            print_two(b": fails, factors ", fault.first, fault.second);
-            print_number(b", coefficients ", fault.coefficients);
-            print(b"\n");
+            print_two(rt, b": fails, factors ", fault.first, fault.second)?;
+            print_number(rt, b", coefficients ", fault.coefficients)?;
+            print(rt, b"\n")
         }
     }
 }
 
-fn print_two(label: &[u8], first: usize, second: usize) {
-    print_number(label, first);
-    print_number(b" ", second);
+fn print_two(rt: &impl Print, label: &[u8], first: usize, second: usize) -> io::Result<()> {
+    print_number(rt, label, first)?;
+    print_number(rt, b" ", second)
 }
 
-fn print_number(label: &[u8], n: usize) {
-    print(label);
-    io::print_decimal(STDOUT_FILENO, n as u64);
+fn print_number(rt: &impl Print, label: &[u8], n: usize) -> io::Result<()> {
+    print(rt, label)?;
+    print!(rt; "{n}")
 }
 
-fn print(text: &[u8]) {
-    io::write_all(STDOUT_FILENO, text);
+fn print(rt: &impl Print, text: &[u8]) -> io::Result<()> {
+    rt.write_all(text)
 }

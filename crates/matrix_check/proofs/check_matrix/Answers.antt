@@ -33,9 +33,9 @@ loop-pair-preserved c =
     let l = c.loop-pair in
     let called = c.differences_deviation in (
       l.invariant.0,
-      called.ensures.1 c.in-Nowhere.is,
+      called.ensures.cleared_2 c.in-Nowhere.is,
       rw c.next-pair.ensures (searched_next _ _ l.pair l.invariant.2 c.loop-pair-test.true
-          (difference_nowhere _ _ _ (sym c.in-Nowhere.is ∙ called.ensures.0))),
+          (difference_nowhere _ _ _ (sym c.in-Nowhere.is ∙ called.ensures.value))),
     )
 
 pub returns : goal.returns

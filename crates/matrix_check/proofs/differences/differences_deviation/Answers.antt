@@ -14,10 +14,10 @@ pub returns-clause-value : goal.returns-clause-value
 unfolding difference_deviation differences keys_deviation matrix_of row_difference
 returns-clause-value c =
     let tallied = c.tally_differences.ensures in
-    let found = c.first_deviation.ensures in found.0 ∙ ap as_deviation (deviation_tallied _ tallied)
+    let found = c.first_deviation.ensures in found.value ∙ ap as_deviation (deviation_tallied _ tallied)
 
 pub returns-clause-cleared_2 : goal.returns-clause-cleared_2
 unfolding difference_deviation differences keys_deviation matrix_of row_difference
 returns-clause-cleared_2 c =
     let tallied = c.tally_differences.ensures in
-    let found = c.first_deviation.ensures in λ e. found.1 e (past_keys _ tallied (λ r h. level_difference_below _ _ _ (le_trans (lit≤ tt) c.requires.checkable_matrix.modulus_from)))
+    let found = c.first_deviation.ensures in λ e. found.cleared e (past_keys _ tallied (λ r h. level_difference_below _ _ _ (le_trans (lit≤ tt) c.requires.checkable_matrix.modulus_from)))

@@ -15,11 +15,6 @@ use Rattle.counting.specs.Matrix.{matrix_of, row_difference, MatrixInRange}
 use Rattle.tally.proofs.Tallies.{tallied_none, tallied_more, counter_fits}
 use Rattle.matrix_check.proofs.differences.tally_differences.Goals as goal
 
-counted : (c : tie.In-loop invariant_loop decreases_loop) (x y : ℕ) → level_difference c.before.before.args.p x y < 4096
-counted c x y =
-    lt_of_lt_of_le (level_difference_below _ _ _ (le_trans (lit≤ tt) c.before.before.requires.0.modulus_from))
-    (le_trans c.before.before.requires.0.modulus_to (lit≤ tt))
-
 pub loop-row-init : goal.loop-row-init
 loop-row-init c = (search rules, sym (zero-mul _), refl, tallied_none _ c.requires.cleared)
 
@@ -43,7 +38,7 @@ pub overflow_add-counters : goal.overflow_add-counters
 overflow_add-counters c =
     let l = c.loop-row in
     let pre = c.requires in
-    counter_fits l.invariant.3 (le_trans l.invariant.0 pre.0.few) _
+    counter_fits l.invariant.3 (le_trans l.invariant.0 pre.checkable_matrix.few) _
 
 pub loop-row-preserved : goal.loop-row-preserved
 unfolding row_difference matrix_of MatrixInRange
@@ -62,9 +57,15 @@ loop-row-preserved c =
     in
     looked_up (level_difference c.args.p) c.args.p c.requires.differences_of first_below second_below
     in
+    let counted : level_difference c.args.p
+    (get_or c.args.entries.now (c.loop-row.row * c.args.columns + c.args.first) 0)
+    (get_or c.args.entries.now (c.loop-row.row * c.args.columns + c.args.second) 0) < 4096 =
+    lt_of_lt_of_le (level_difference_below _ _ _ (le_trans (lit≤ tt) c.requires.checkable_matrix.modulus_from))
+    (le_trans c.requires.checkable_matrix.modulus_to (lit≤ tt))
+    in
     let l = c.loop-row in (
       search rules,
       rw l.invariant.1 (sym (run_more l.row _)),
       search rules,
-      rw (key_found, l.invariant.1) (tallied_more l.invariant.3 (counted c _ _)),
+      rw (key_found, l.invariant.1) (tallied_more l.invariant.3 counted),
     )
