@@ -1,0 +1,14 @@
+-- `put_sum` meets its contract. The invariant: the first sums are put, and what stands before them is as it was.
+-- Assumes nothing.
+use mathlib.Core.List.{map}
+use Prim.Native.Nat.{◌-◌, ◌≤◌}
+use Rattle.finite.specs.Lists.{from}
+use Rattle.buffers.specs.Put.{Put}
+use Rattle.generated_runs.proofs.put_sum.Given as goal
+
+abbrev pub invariant-loop-i : goal.invariant-loop-i
+invariant-loop-i l =
+    (l.i ≤ l.n) × Put l.initial.table l.at (map (sum_at l.most l.sums l.initial.table l.one l.other) (from 0 l.i)) l.table l.place
+
+abbrev pub decreases-loop-i : goal.decreases-loop-i
+decreases-loop-i l = l.n - l.i
