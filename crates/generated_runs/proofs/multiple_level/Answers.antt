@@ -47,7 +47,7 @@ overflow_cast-list c =
     let pre = c.requires in
     let args = c.args in
     rw (same_place args.g.entries_at (args.row * args.g.width) args.column c.loop-i.i)
-    (element_below pre.0 args.row (args.column + c.loop-i.i) pre.1.0.0 next_column)
+    (element_below pre.field_stands args.row (args.column + c.loop-i.i) pre.row_lt_t.0 next_column)
     in
     omega (arith, next_below, c.requires.field_stands.size_most)
 
@@ -61,17 +61,17 @@ product-product-requires c =
     let pre = c.requires in
     let args = c.args in
     rw (same_place args.g.entries_at (args.row * args.g.width) args.column c.loop-i.i)
-    (element_below pre.0 args.row (args.column + c.loop-i.i) pre.1.0.0 next_column)
+    (element_below pre.field_stands args.row (args.column + c.loop-i.i) pre.row_lt_t.0 next_column)
     in
     let pre = c.requires in
-    record { size = pre.0.size; first = pre.1.0.1; second = next_below }
+    record { size = pre.field_stands.size; first = pre.row_lt_t.1; second = next_below }
 
 pub overflow_mul-level : goal.overflow_mul-level
 overflow_mul-level c =
     let pre = c.requires in
     let args = c.args in
     let l = c.loop-i in
-    rw l.invariant.1 (omega (arith, level_small pre.0 (single args.g args.row args.digit) pre.1.1 l.i c.loop-i-test.true))
+    rw l.invariant.1 (omega (arith, level_small pre.field_stands (single args.g args.row args.digit) pre.columns_in l.i c.loop-i-test.true))
 
 pub overflow_add-level : goal.overflow_add-level
 overflow_add-level c =
@@ -87,12 +87,12 @@ overflow_add-level c =
     c.product-product.ensures
     ∙ ap (λ place. field_product args.g.s args.digit (get_or args.list.now place 0))
     (same_place args.g.entries_at (args.row * args.g.width) args.column c.loop-i.i)
-    ∙ sym (single_value pre.0 args.row args.digit (args.column + c.loop-i.i) pre.1.0.0 pre.1.0.1 next_column)
+    ∙ sym (single_value pre.field_stands args.row args.digit (args.column + c.loop-i.i) pre.row_lt_t.0 pre.row_lt_t.1 next_column)
     in
     let pre = c.requires in
     let args = c.args in
     let l = c.loop-i in
-    rw (l.invariant.1, product_is) (omega (arith, level_small pre.0 (single args.g args.row args.digit) pre.1.1 l.i c.loop-i-test.true))
+    rw (l.invariant.1, product_is) (omega (arith, level_small pre.field_stands (single args.g args.row args.digit) pre.columns_in l.i c.loop-i-test.true))
 
 pub loop-i-preserved : goal.loop-i-preserved
 loop-i-preserved c =
@@ -108,8 +108,8 @@ loop-i-preserved c =
     c.product-product.ensures
     ∙ ap (λ place. field_product args.g.s args.digit (get_or args.list.now place 0))
     (same_place args.g.entries_at (args.row * args.g.width) args.column c.loop-i.i)
-    ∙ sym (single_value pre.0 args.row args.digit (args.column + c.loop-i.i) pre.1.0.0 pre.1.0.1 next_column)
+    ∙ sym (single_value pre.field_stands args.row args.digit (args.column + c.loop-i.i) pre.row_lt_t.0 pre.row_lt_t.1 next_column)
     in
     let pre = c.requires in
     let l = c.loop-i in
-    (search rules, rw (l.invariant.1, product_is) (sym (level_more pre.0 _ _ l.i)))
+    (search rules, rw (l.invariant.1, product_is) (sym (level_more pre.field_stands _ _ l.i)))

@@ -9,13 +9,13 @@ pub returns-then-before-g : goal.returns-then-before-g
 returns-then-before-g c =
     let pre = c.requires in
     let after = c.if-run-before.false in
-    let span = some_span _ pre.0.0 pre.1.0.0 in
-    (leads_next _ pre.0.0 pre.1.0.0 (le_antisymm pre.1.0.2 after) c.if-before-g.true, le_refl _, omega arith)
+    let span = some_span _ pre.t.0 pre.leads.0 in
+    (leads_next _ pre.t.0 pre.leads.0 (le_antisymm pre.leads.2 after) c.if-before-g.true, le_refl _, omega arith)
 
 pub returns : goal.returns
 returns c =
     let pre = c.requires in
     let after = c.if-run-before.false in
-    let next = le_antisymm pre.1.0.2 after in
-    let some = some_runs _ pre.0.0 pre.1.0.0 next c.if-before-g.false in
-    (leads_wrap _ pre.0.0 pre.1.0.0 next c.if-before-g.false pre.1.1, le_refl _, omega arith)
+    let next = le_antisymm pre.leads.2 after in
+    let some = some_runs _ pre.t.0 pre.leads.0 next c.if-before-g.false in
+    (leads_wrap _ pre.t.0 pre.leads.0 next c.if-before-g.false pre.run_bound, le_refl _, omega arith)

@@ -26,7 +26,11 @@ bounds-list-widths_at c = let k = c.requires.field_stands in omega (arith, k.wid
 
 pub overflow_cast-width : goal.overflow_cast-width
 overflow_cast-width c =
-    omega (arith, c.shared_slice_known-in-loop-factor-1.given (c.args.g.widths_at + c.loop-factor.factor))
+    omega (arith, c.type_inv.list (c.args.g.widths_at + c.loop-factor.factor))
+
+pub multiple_level-requires-clause-columns_in : goal.multiple_level-requires-clause-columns_in
+multiple_level-requires-clause-columns_in c =
+    rw c.loop-factor.invariant.1 (factor_columns_lem c.requires.field_stands _ c.loop-factor-test.true)
 
 pub overflow_add-column : goal.overflow_add-column
 overflow_add-column c =

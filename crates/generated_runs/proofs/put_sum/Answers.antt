@@ -18,43 +18,43 @@ loop-i-init c = (search rules, values_none _ (omega arith))
 pub overflow_add-x : goal.overflow_add-x
 overflow_add-x c =
     let pre = c.requires in
-    omega (arith, pre.0.0, c.loop-i-test.true, c.ranges.at)
+    omega (arith, pre.n_bound.0, c.loop-i-test.true, c.ranges.at)
 
 pub bounds-table-one : goal.bounds-table-one
 bounds-table-one c =
     let pre = c.requires in
-    omega (arith, pre.0.0, pre.0.2, c.loop-i-test.true, put_length c.loop-i.invariant.1)
+    omega (arith, pre.n_bound.0, pre.n_bound.2, c.loop-i-test.true, put_length c.loop-i.invariant.1)
 
 pub overflow_cast-x : goal.overflow_cast-x
 overflow_cast-x c =
     let first_same : get_or c.loop-i.table (c.args.one + c.loop-i.i) 0
     ≡ get_or c.args.table.now (c.args.one + c.loop-i.i) 0 =
     let pre = c.requires in
-    put_before c.loop-i.invariant.1 (omega (arith, pre.0.0, c.loop-i-test.true))
+    put_before c.loop-i.invariant.1 (omega (arith, pre.n_bound.0, c.loop-i-test.true))
     in
     let pre = c.requires in
-    rw first_same (omega (arith, pre.1.first c.loop-i.i c.loop-i-test.true, pre.1.few))
+    rw first_same (omega (arith, pre.sums_stand.first c.loop-i.i c.loop-i-test.true, pre.sums_stand.few))
 
 pub overflow_add-y : goal.overflow_add-y
 overflow_add-y c =
     let pre = c.requires in
-    omega (arith, pre.0.1, c.loop-i-test.true, c.ranges.at)
+    omega (arith, pre.n_bound.1, c.loop-i-test.true, c.ranges.at)
 
 pub bounds-table-other : goal.bounds-table-other
 bounds-table-other c =
     let pre = c.requires in
-    omega (arith, pre.0.1, pre.0.2, c.loop-i-test.true, put_length c.loop-i.invariant.1)
+    omega (arith, pre.n_bound.1, pre.n_bound.2, c.loop-i-test.true, put_length c.loop-i.invariant.1)
 
 pub overflow_cast-y : goal.overflow_cast-y
 overflow_cast-y c =
     let second_same : get_or c.loop-i.table (c.args.other + c.loop-i.i) 0
     ≡ get_or c.args.table.now (c.args.other + c.loop-i.i) 0 =
     let pre = c.requires in
-    put_before c.loop-i.invariant.1 (omega (arith, pre.0.1, c.loop-i-test.true))
+    put_before c.loop-i.invariant.1 (omega (arith, pre.n_bound.1, c.loop-i-test.true))
     in
     let pre = c.requires in
     rw second_same
-    (omega (arith, pre.1.second c.loop-i.i c.loop-i-test.true, pre.1.few))
+    (omega (arith, pre.sums_stand.second c.loop-i.i c.loop-i-test.true, pre.sums_stand.few))
 
 pub overflow_mul-x : goal.overflow_mul-x
 overflow_mul-x c =
@@ -64,17 +64,17 @@ overflow_mul-x c =
     let first_same : get_or c.loop-i.table (c.args.one + c.loop-i.i) 0
     ≡ get_or c.args.table.now (c.args.one + c.loop-i.i) 0 =
     let pre = c.requires in
-    put_before c.loop-i.invariant.1 (omega (arith, pre.0.0, c.loop-i-test.true))
+    put_before c.loop-i.invariant.1 (omega (arith, pre.n_bound.0, c.loop-i-test.true))
     in
     let second_same : get_or c.loop-i.table (c.args.other + c.loop-i.i) 0
     ≡ get_or c.args.table.now (c.args.other + c.loop-i.i) 0 =
     let pre = c.requires in
-    put_before c.loop-i.invariant.1 (omega (arith, pre.0.1, c.loop-i-test.true))
+    put_before c.loop-i.invariant.1 (omega (arith, pre.n_bound.1, c.loop-i-test.true))
     in
     let pre = c.requires in
     let taken = c.loop-i-test.true in
     rw (first_same, second_same)
-    (lt_of_lt_of_le (digits_lt (pre.1.first c.loop-i.i taken) (pre.1.second c.loop-i.i taken)) (mul-le-mul pre.1.few pre.1.few))
+    (lt_of_lt_of_le (digits_lt (pre.sums_stand.first c.loop-i.i taken) (pre.sums_stand.second c.loop-i.i taken)) (mul-le-mul pre.sums_stand.few pre.sums_stand.few))
     in
     omega (arith, sum_in)
 
@@ -86,17 +86,17 @@ overflow_add-x-in-loop-i c =
     let first_same : get_or c.loop-i.table (c.args.one + c.loop-i.i) 0
     ≡ get_or c.args.table.now (c.args.one + c.loop-i.i) 0 =
     let pre = c.requires in
-    put_before c.loop-i.invariant.1 (omega (arith, pre.0.0, c.loop-i-test.true))
+    put_before c.loop-i.invariant.1 (omega (arith, pre.n_bound.0, c.loop-i-test.true))
     in
     let second_same : get_or c.loop-i.table (c.args.other + c.loop-i.i) 0
     ≡ get_or c.args.table.now (c.args.other + c.loop-i.i) 0 =
     let pre = c.requires in
-    put_before c.loop-i.invariant.1 (omega (arith, pre.0.1, c.loop-i-test.true))
+    put_before c.loop-i.invariant.1 (omega (arith, pre.n_bound.1, c.loop-i-test.true))
     in
     let pre = c.requires in
     let taken = c.loop-i-test.true in
     rw (first_same, second_same)
-    (lt_of_lt_of_le (digits_lt (pre.1.first c.loop-i.i taken) (pre.1.second c.loop-i.i taken)) (mul-le-mul pre.1.few pre.1.few))
+    (lt_of_lt_of_le (digits_lt (pre.sums_stand.first c.loop-i.i taken) (pre.sums_stand.second c.loop-i.i taken)) (mul-le-mul pre.sums_stand.few pre.sums_stand.few))
     in
     omega (arith, sum_in)
 
@@ -108,17 +108,17 @@ bounds-sums-x c =
     let first_same : get_or c.loop-i.table (c.args.one + c.loop-i.i) 0
     ≡ get_or c.args.table.now (c.args.one + c.loop-i.i) 0 =
     let pre = c.requires in
-    put_before c.loop-i.invariant.1 (omega (arith, pre.0.0, c.loop-i-test.true))
+    put_before c.loop-i.invariant.1 (omega (arith, pre.n_bound.0, c.loop-i-test.true))
     in
     let second_same : get_or c.loop-i.table (c.args.other + c.loop-i.i) 0
     ≡ get_or c.args.table.now (c.args.other + c.loop-i.i) 0 =
     let pre = c.requires in
-    put_before c.loop-i.invariant.1 (omega (arith, pre.0.1, c.loop-i-test.true))
+    put_before c.loop-i.invariant.1 (omega (arith, pre.n_bound.1, c.loop-i-test.true))
     in
     let pre = c.requires in
     let taken = c.loop-i-test.true in
     rw (first_same, second_same)
-    (lt_of_lt_of_le (digits_lt (pre.1.first c.loop-i.i taken) (pre.1.second c.loop-i.i taken)) (mul-le-mul pre.1.few pre.1.few))
+    (lt_of_lt_of_le (digits_lt (pre.sums_stand.first c.loop-i.i taken) (pre.sums_stand.second c.loop-i.i taken)) (mul-le-mul pre.sums_stand.few pre.sums_stand.few))
     in
     rw c.requires.sums_stand.places sum_in
 
@@ -126,19 +126,19 @@ pub put_byte-place-requires : goal.put_byte-place-requires
 put_byte-place-requires c =
     let pre = c.requires in
     let l = c.loop-i in
-    values_room _ l.i _ l.invariant.1 c.loop-i-test.true pre.0.2
+    values_room _ l.i _ l.invariant.1 c.loop-i-test.true pre.n_bound.2
 
 pub loop-i-preserved : goal.loop-i-preserved
 loop-i-preserved c =
     let first_same : get_or c.loop-i.table (c.args.one + c.loop-i.i) 0
     ≡ get_or c.args.table.now (c.args.one + c.loop-i.i) 0 =
     let pre = c.requires in
-    put_before c.loop-i.invariant.1 (omega (arith, pre.0.0, c.loop-i-test.true))
+    put_before c.loop-i.invariant.1 (omega (arith, pre.n_bound.0, c.loop-i-test.true))
     in
     let second_same : get_or c.loop-i.table (c.args.other + c.loop-i.i) 0
     ≡ get_or c.args.table.now (c.args.other + c.loop-i.i) 0 =
     let pre = c.requires in
-    put_before c.loop-i.invariant.1 (omega (arith, pre.0.1, c.loop-i-test.true))
+    put_before c.loop-i.invariant.1 (omega (arith, pre.n_bound.1, c.loop-i-test.true))
     in
     let l = c.loop-i in
     (search rules, values_next _ l.invariant.1 (rw (first_same, second_same) at c.put_byte-place.ensures))
