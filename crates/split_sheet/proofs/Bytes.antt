@@ -80,12 +80,14 @@ module _ (value : SplitSource → ℕ) (n : ℕ) where
   unfolding from flat_map split_place
   in_pieces a c [] h same = absurd (omega arith)
   in_pieces a zero (x ∷ xs) h same =
-      rw (add-zero a, eq-eqb a a refl)
+      ap (λ (q : ℕ). map value (flat_map (split_place q n) (from a (length (x ∷ xs))))) (add-zero a)
+      ∙ rw (eq-eqb a a refl)
       (map-append value (map part (from 0 n)) (flat_map (split_place a n) (from (suc a) (length xs)))
       ∙ ap (λ (ys : List ℕ). map value (map part (from 0 n)) ++ ys) (all_kept a (suc a) xs (omega arith) (keeps_tail a x xs same)))
   in_pieces a (suc c) (x ∷ xs) h same =
       let next : a + suc c ≡ suc a + c = omega arith in
-      rw (next, ne_eqb a (suc a + c) (λ e. omega arith)) (ap₂ ◌∷◌ (keeps_head a x xs same) (in_pieces (suc a) c xs (omega arith) (keeps_tail a x xs same)))
+      ap (λ (q : ℕ). map value (flat_map (split_place q n) (from a (length (x ∷ xs))))) next
+      ∙ rw (ne_eqb a (suc a + c) (λ e. omega arith)) (ap₂ ◌∷◌ (keeps_head a x xs same) (in_pieces (suc a) c xs (omega arith) (keeps_tail a x xs same)))
 
   pub sources_pieces : (c : ℕ) (xs : List ℕ) → c < length xs → Keeps 0 xs → map value (flat_map (split_place c n) (from 0 (length xs))) ≡ give_way c xs (map (λ d. value (part d)) (from 0 n))
   unfolding give_way

@@ -1,122 +1,67 @@
 -- `crossed_sheet::put_beside` meets its contract: the next sheet is built in the scratch, its level counts beside it, and both are settled.
 use mathlib.Core.Path.{sym}
+use mathlib.Core.List.{List}
+use Prim.Native.Nat.{ℕ, ◌≤◌}
 use borrow.Author.Rules.{rules}
 use lib.Seq.{length-take-le}
 use Rattle.buffers.proofs.Puts.{put_part}
-use Rattle.ingredients.specs.Named.{table_in}
+use Rattle.counting.specs.Table.{Table}
+use Rattle.step_tables.specs.Sheet.{SmallEnough}
+use Rattle.layout.specs.Bytes.{Holds, Zeros, LongEnough, sheet_in}
+use Rattle.layout.specs.declared.Size.{Size}
 use Rattle.layout.proofs.Sheets.{held_after, held_levels_after}
-use Rattle.crossed_sheet.proofs.Beside.{Handed, levels_few, cells_used, cells_room, scratch_holds, next_room}
+use Rattle.crossed_sheet.specs.Crossing.{crossed_sheet}
+use Rattle.crossed_sheet.proofs.Beside.{Handed, levels_few, cells_used, columns_room, cells_room, scratch_holds, next_room, settled}
 use Rattle.crossed_sheet.proofs.put_beside.Goals as goal
+
+handed : {M : ℕ} {H : Table} {size : Size} {table levels scratch : List ℕ}
+    → LongEnough table levels scratch × Zeros scratch
+    → Holds (sheet_in table levels size) table levels × (size.columns ≤ 128)
+    → SmallEnough (crossed_sheet M H (sheet_in table levels size))
+    → Handed M H size table levels scratch
+handed room sheet small =
+    record { long = room.0; clear = room.1; holds = sheet.0; columns_most = sheet.1; small = small }
 
 pub slice_bounds-put_crossed_levels-end-2 : goal.slice_bounds-put_crossed_levels-end-2
 slice_bounds-put_crossed_levels-end-2 c =
-    let handed : Handed c.args.rows (table_in c.args.list.now c.args.h) c.args.size c.args.table.now c.args.levels.now c.args.scratch.now =
-    record {
-      long = c.requires.long_enough.0;
-      clear = c.requires.long_enough.1;
-      holds = c.requires.holds.0;
-      columns_most = c.requires.holds.1;
-      small = c.requires.small_enough;
-    }
-    in
-    sym (length-take-le _ _ (levels_few handed))
+    let given = handed c.requires.long_enough c.requires.holds c.requires.small_enough in
+    sym (length-take-le _ _ (levels_few given))
+
+pub put_crossed_levels-count-requires-clause-h_in_bounds : goal.put_crossed_levels-count-requires-clause-h_in_bounds
+put_crossed_levels-count-requires-clause-h_in_bounds c =
+    let given = handed c.requires.long_enough c.requires.holds c.requires.small_enough in
+    rw (length-take-le _ _ (levels_few given)) (columns_room given)
+
+pub put_crossed_runs-built-requires-clause-columns_in_bounds : goal.put_crossed_runs-built-requires-clause-columns_in_bounds
+put_crossed_runs-built-requires-clause-columns_in_bounds c =
+    cells_used (handed c.requires.long_enough c.requires.holds c.requires.small_enough)
+
+pub put_crossed_runs-built-requires-clause-h_in_bounds : goal.put_crossed_runs-built-requires-clause-h_in_bounds
+put_crossed_runs-built-requires-clause-h_in_bounds c =
+    cells_room (handed c.requires.long_enough c.requires.holds c.requires.small_enough)
 
 pub overflow_mul-runs : goal.overflow_mul-runs
 overflow_mul-runs c =
-    let handed : Handed c.args.rows (table_in c.args.list.now c.args.h) c.args.size c.args.table.now c.args.levels.now c.args.scratch.now =
-    record {
-      long = c.requires.long_enough.0;
-      clear = c.requires.long_enough.1;
-      holds = c.requires.holds.0;
-      columns_most = c.requires.holds.1;
-      small = c.requires.small_enough;
-    }
-    in
-    let room = cells_used handed in search rules
+    let room = cells_used (handed c.requires.long_enough c.requires.holds c.requires.small_enough) in search rules
 
 pub slice_bounds-settle-end : goal.slice_bounds-settle-end
 slice_bounds-settle-end c = put_part c.put_crossed_levels-count.ensures
 
-pub put_crossed_runs-built-requires-clause-columns_in_bounds : goal.put_crossed_runs-built-requires-clause-columns_in_bounds
-put_crossed_runs-built-requires-clause-columns_in_bounds c =
-    let handed : Handed c.args.rows (table_in c.args.list.now c.args.h) c.args.size c.args.table.now c.args.levels.now c.args.scratch.now =
-    record {
-      long = c.requires.long_enough.0;
-      clear = c.requires.long_enough.1;
-      holds = c.requires.holds.0;
-      columns_most = c.requires.holds.1;
-      small = c.requires.small_enough;
-    }
-    in cells_used handed
-
-pub put_crossed_runs-built-requires-clause-h_in_bounds : goal.put_crossed_runs-built-requires-clause-h_in_bounds
-put_crossed_runs-built-requires-clause-h_in_bounds c =
-    let handed : Handed c.args.rows (table_in c.args.list.now c.args.h) c.args.size c.args.table.now c.args.levels.now c.args.scratch.now =
-    record {
-      long = c.requires.long_enough.0;
-      clear = c.requires.long_enough.1;
-      holds = c.requires.holds.0;
-      columns_most = c.requires.holds.1;
-      small = c.requires.small_enough;
-    }
-    in cells_room handed
-
-pub settle-requires-clause-used_in_bounds : goal.settle-requires-clause-used_in_bounds
-settle-requires-clause-used_in_bounds c =
-    let handed : Handed c.args.rows (table_in c.args.list.now c.args.h) c.args.size c.args.table.now c.args.levels.now c.args.scratch.now =
-    record {
-      long = c.requires.long_enough.0;
-      clear = c.requires.long_enough.1;
-      holds = c.requires.holds.0;
-      columns_most = c.requires.holds.1;
-      small = c.requires.small_enough;
-    }
-    in
-    let given = handed in
+pub settle-requires : goal.settle-requires
+settle-requires c =
+    let given = handed c.requires.long_enough c.requires.holds c.requires.small_enough in
     let runs_put = c.put_crossed_runs-built.ensures in
-    let levels_put = c.put_crossed_levels-count.ensures in (cells_used given, held_after _ _ _ (levels_few given) given.holds)
-
-pub settle-requires-clause-columns_in_bounds : goal.settle-requires-clause-columns_in_bounds
-settle-requires-clause-columns_in_bounds c =
-    let handed : Handed c.args.rows (table_in c.args.list.now c.args.h) c.args.size c.args.table.now c.args.levels.now c.args.scratch.now =
+    let levels_put = c.put_crossed_levels-count.ensures in
     record {
-      long = c.requires.long_enough.0;
-      clear = c.requires.long_enough.1;
-      holds = c.requires.holds.0;
-      columns_most = c.requires.holds.1;
-      small = c.requires.small_enough;
+      used_in_bounds = (cells_used given, held_after _ _ _ (levels_few given) given.holds);
+      columns_in_bounds = (levels_few given, held_levels_after _ _ _ (levels_few given) given.holds);
+      built_in_bounds = scratch_holds given runs_put levels_put;
+      built_in_bounds_2 = next_room given runs_put levels_put;
     }
-    in
-    let given = handed in
-    let runs_put = c.put_crossed_runs-built.ensures in
-    let levels_put = c.put_crossed_levels-count.ensures in (levels_few given, held_levels_after _ _ _ (levels_few given) given.holds)
 
-pub settle-requires-clause-built_in_bounds : goal.settle-requires-clause-built_in_bounds
-settle-requires-clause-built_in_bounds c =
-    let handed : Handed c.args.rows (table_in c.args.list.now c.args.h) c.args.size c.args.table.now c.args.levels.now c.args.scratch.now =
-    record {
-      long = c.requires.long_enough.0;
-      clear = c.requires.long_enough.1;
-      holds = c.requires.holds.0;
-      columns_most = c.requires.holds.1;
-      small = c.requires.small_enough;
-    }
-    in
-    let given = handed in
-    let runs_put = c.put_crossed_runs-built.ensures in
-    let levels_put = c.put_crossed_levels-count.ensures in scratch_holds given runs_put levels_put
-
-pub settle-requires-clause-built_in_bounds_2 : goal.settle-requires-clause-built_in_bounds_2
-settle-requires-clause-built_in_bounds_2 c =
-    let handed : Handed c.args.rows (table_in c.args.list.now c.args.h) c.args.size c.args.table.now c.args.levels.now c.args.scratch.now =
-    record {
-      long = c.requires.long_enough.0;
-      clear = c.requires.long_enough.1;
-      holds = c.requires.holds.0;
-      columns_most = c.requires.holds.1;
-      small = c.requires.small_enough;
-    }
-    in
-    let given = handed in
-    let runs_put = c.put_crossed_runs-built.ensures in
-    let levels_put = c.put_crossed_levels-count.ensures in next_room given runs_put levels_put
+pub returns-clause-holds_2 : goal.returns-clause-holds_2
+returns-clause-holds_2 c =
+    let given = handed c.requires.long_enough c.requires.holds c.requires.small_enough in
+    let left = c.settle in
+    settled given c.put_crossed_runs-built.ensures c.put_crossed_levels-count.ensures left.auto.table left.auto.levels left.ensures.table_after
+    left.ensures.levels_after

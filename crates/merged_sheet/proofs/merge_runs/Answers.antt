@@ -56,7 +56,7 @@ loop-run-preserved c =
     let taken = c.loop-run-test.true in (
       omega arith,
       ap (λ n. n + columns) l.invariant.1 ∙ sym (run_more l.run columns),
-      runs_next _ _ l.run (fewer_columns pre.0) l.invariant.2
-          (rw (merged_run pre.0 l.run _ taken l.invariant.1 _ _ c1.ensures c2.ensures _ _ pre.1.0.1 c.merged_level-merged.ensures)
+      runs_next _ _ l.run (fewer_columns pre.fitting) l.invariant.2
+          (rw (merged_run pre.fitting l.run _ taken l.invariant.1 _ _ c1.ensures c2.ensures _ _ pre.levels_in_bounds.1 c.merged_level-merged.ensures)
           at c.merge_row-place.ensures),
     )

@@ -1,9 +1,10 @@
 -- `merge_sheet` meets its contract: the runs and the level counts that are put are those of the sheet that the definition leaves.
 use mathlib.Core.Path.{sym}
+use borrow.Author.Rules.{rules}
 use native.Mathlib.Omega.{arith}
 use Rattle.buffers.proofs.Puts.{put_part}
 use Rattle.layout.proofs.Sheets.{cells_few, ready_few, ready_runs, ready_used, ready_after, ready_levels_after}
-use Rattle.merged_sheet.proofs.Settled.{square_most, counted_length, runs_room, scratch_asked, room_asked}
+use Rattle.merged_sheet.proofs.Settled.{square_most, counted_length, runs_room, scratch_asked, room_asked, settled}
 use Rattle.merged_sheet.proofs.merge_sheet.Goals as goal
 
 pub slice_bounds-merge_runs-end-3 : goal.slice_bounds-merge_runs-end-3
@@ -51,3 +52,9 @@ settle-requires-clause-built_in_bounds_2 c =
     let m = c.requires in
     let runs_put = c.merge_runs-built.ensures in
     let counts_put = c.merge_row-left.ensures in room_asked m runs_put counts_put
+
+pub returns-clause-left : goal.returns-clause-left
+returns-clause-left c =
+    let m = c.requires in
+    let called = c.settle in
+    settled m c.merge_runs-built.ensures c.merge_row-left.ensures called.auto.table called.auto.levels called.ensures.table_after called.ensures.levels_after (search rules)

@@ -11,9 +11,6 @@ use Rattle.layout.proofs.Bytes.{run_length}
 use Rattle.split_sheet.proofs.Bytes.{part_rest}
 use Rattle.split_sheet.proofs.put_split_run.Goals as goal
 
-pub overflow_cast-row : goal.overflow_cast-row
-overflow_cast-row c = omega (arith, c.shared_slice_known-2-1.given c.args.c)
-
 pub slice_bounds-put_bytes-end : goal.slice_bounds-put_bytes-end
 slice_bounds-put_bytes-end c =
     let within : c.args.c ≤ length c.args.run.now = omega (arith, c.requires.c_in_bounds.0) in
@@ -30,5 +27,6 @@ put_bytes-requires c =
     let first = c.put_bytes-place.ensures in
     let second = c.put_run-place.ensures in
     let row = run_length (table_in c.args.list.now c.args.named) (get_or c.args.run.now c.args.c 0) in
+    let within : c.args.c ≤ length c.args.run.now = omega (arith, c.requires.c_in_bounds.0) in
     rw (part_rest (c.args.c + 1) c.args.run.now, length-drop)
-    (omega (arith, slice_aggregate_put_bytes c, c.requires.c_in_bounds.0, c.requires.named_in_bounds, put_length first, first.ends, put_length second, second.ends, row))
+    (omega (arith, length-take-le _ _ within, c.requires.c_in_bounds.0, c.requires.named_in_bounds, put_length first, first.ends, put_length second, second.ends, row))

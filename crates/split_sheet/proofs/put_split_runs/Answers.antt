@@ -8,8 +8,9 @@ use borrow.Author.Rules.{rules}
 use lib.ListN.{length}
 use Rattle.buffers.proofs.Puts.{put_length}
 use Rattle.split_sheet.specs.Splitting.{split_runs}
-use Rattle.layout.proofs.Rows.{pieces_none, pieces_next}
-use Rattle.split_sheet.proofs.Bytes.{run_part, run_end}
+use Rattle.layout.proofs.Rows.{pieces_none, pieces_next, pieces_room}
+use Rattle.ingredients.specs.Named.{table_in}
+use Rattle.split_sheet.proofs.Bytes.{run_part, run_end, run_in_length, split_run_length}
 use Rattle.split_sheet.proofs.put_split_runs.Goals as goal
 
 pub loop-run-init : goal.loop-run-init
@@ -40,3 +41,14 @@ unfolding split_runs
 returns c =
     let all : c.loop-run.run ≡ c.args.size.runs = omega (arith, c.loop-run.invariant.0, c.loop-run-test.false) in
     rw all at c.loop-run.invariant.2
+
+pub put_split_run-place-requires-clause-named_in_bounds : goal.put_split_run-place-requires-clause-named_in_bounds
+put_split_run-place-requires-clause-named_in_bounds c =
+    let table = c.args.table.now in
+    let runs = c.args.size.runs in
+    let width = c.args.size.columns in
+    let T = table_in c.args.list.now c.args.named in
+    let used = c.requires.c_lt_columns.1 in
+    let below = c.loop-run-test.true in
+    rw (run_part table width c.loop-run.run _ c.loop-run.invariant.1, run_in_length table runs width c.loop-run.run used below)
+    (pieces_room _ _ _ _ (λ r h. split_run_length table runs width r used h c.args.c T c.requires.c_lt_columns.0) c.loop-run.invariant.2 below c.requires.named_in_bounds)

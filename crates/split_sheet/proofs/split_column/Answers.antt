@@ -6,7 +6,7 @@ use lib.Seq.{length-take-le}
 use Rattle.buffers.proofs.Puts.{put_part}
 use Rattle.ingredients.specs.Named.{table_in}
 use Rattle.layout.proofs.Sheets.{ready_few, ready_used, ready_after, ready_levels_after}
-use Rattle.split_sheet.proofs.Sheet.{on_sheet, row_there, cells_room, built_room, built_within, count_room, scratch_after, settled, take_few}
+use Rattle.split_sheet.proofs.Sheet.{on_sheet, row_there, columns_room, cells_room, built_room, built_within, count_room, scratch_after, settled, take_few}
 use Rattle.split_sheet.proofs.split_column.Goals as goal
 
 pub slice_bounds-put_split_levels-end-2 : goal.slice_bounds-put_split_levels-end-2
@@ -78,4 +78,15 @@ settle-requires-clause-built_in_bounds_2 c =
 pub returns-clause-holds : goal.returns-clause-holds
 returns-clause-holds c =
     let T = table_in c.args.list.now c.args.named in
-    let left = c.settle.ensures in settled c.requires.ready _ T c.requires.split_fits c.requires.small_enough c.put_split_runs-built.ensures c.put_split_levels-count.ensures left.0 left.1.0
+    let left = c.settle.ensures in settled c.requires.ready _ T c.requires.split_fits c.requires.small_enough c.put_split_runs-built.ensures c.put_split_levels-count.ensures left.table_after left.levels_after
+
+pub put_split_levels-count-requires-clause-c_in_bounds : goal.put_split_levels-count-requires-clause-c_in_bounds
+put_split_levels-count-requires-clause-c_in_bounds c =
+    let ready = c.requires.ready in
+    rw (length-take-le _ _ (ready_few ready)) (on_sheet ready _ (table_in c.args.list.now c.args.named) c.requires.split_fits)
+
+pub put_split_levels-count-requires-clause-named_in_bounds : goal.put_split_levels-count-requires-clause-named_in_bounds
+put_split_levels-count-requires-clause-named_in_bounds c =
+    let ready = c.requires.ready in
+    let T = table_in c.args.list.now c.args.named in
+    rw (length-take-le _ _ (ready_few ready)) (columns_room ready _ T c.requires.split_fits c.requires.small_enough)

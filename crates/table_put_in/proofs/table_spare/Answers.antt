@@ -9,6 +9,6 @@ use Rattle.table_put_in.proofs.table_spare.Goals as goal
 
 pub returns : goal.returns
 returns c =
-    to_z-of_z {w = w64} (sfits_of c.Spare-of.type_inv)
-    ∙ c.Spare-of.ensures
+    to_z-of_z {w = w64} (sfits_of c.spare_of.type_inv)
+    ∙ c.spare_of.ensures
     ∙ ap₂ spare_of c.run_count.ensures (put_front c.put_level_counts-columns.ensures)

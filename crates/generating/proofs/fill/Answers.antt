@@ -1,0 +1,66 @@
+-- `fill` meets its contract: the level counts and the runs are put at the front of zeros.
+-- Assumes nothing.
+use mathlib.Core.Path.{sym, ◌∙◌}
+use native.Mathlib.Nat.{le_trans}
+use lib.Dec.{lit≤}
+use Rattle.galois.proofs.Fields.{size_positive}
+use Rattle.layout.specs.Step.{Left}
+use Rattle.layout.proofs.Rows.{put_holds}
+use Rattle.layout.proofs.Sheets.{held_limits, held_answer}
+use Rattle.generated_runs.proofs.FieldSheet.{sheet_runs, sheet_columns}
+use Rattle.generating.proofs.FieldNamed.{generator_small}
+use Rattle.generating.proofs.fill.Goals as goal
+
+pub power-runs-requires : goal.power-runs-requires
+power-runs-requires c = let known = c.requires.field_stands in (size_positive _ known.size, le_trans known.runs_most (lit≤ tt))
+
+pub power-requires : goal.power-requires
+power-requires c =
+    let known = c.requires.field_stands in
+    (size_positive _ known.size, le_trans c.widest-width.ensures.1 (lit≤ tt))
+
+pub put_runs-requires-clause-field_stands : goal.put_runs-requires-clause-field_stands
+put_runs-requires-clause-field_stands c =
+    let pre = c.requires in
+    let widest = c.widest-width in
+    let most = c.power.ensures in pre.field_stands
+
+pub put_runs-requires-clause-runs_value : goal.put_runs-requires-clause-runs_value
+put_runs-requires-clause-runs_value c =
+    let pre = c.requires in
+    let widest = c.widest-width in
+    let most = c.power.ensures in c.power-runs.ensures
+
+pub put_runs-requires-clause-sums : goal.put_runs-requires-clause-sums
+put_runs-requires-clause-sums c =
+    let pre = c.requires in
+    let widest = c.widest-width in
+    let most = c.power.ensures in record {
+      width = widest.result;
+      widths = widest.ensures.0;
+      power = most;
+      few = rw most widest.ensures.1;
+      all = rw most c.level_sums-sums.ensures;
+    }
+
+pub put_runs-requires-clause-in_bounds : goal.put_runs-requires-clause-in_bounds
+put_runs-requires-clause-in_bounds c =
+    let pre = c.requires in
+    let widest = c.widest-width in
+    let most = c.power.ensures in pre.in_bounds.0
+
+pub sheet_answer-requires : goal.sheet_answer-requires
+sheet_answer-requires c =
+    let pre = c.requires in
+    held_limits (put_holds _ pre.in_bounds.1 pre.in_bounds_2.1 c.put_runs.ensures c.put_levels.ensures)
+    (c.power.ensures ∙ sym (sheet_runs pre.field_stands))
+    (sym (sheet_columns pre.field_stands))
+    (generator_small pre.field_stands)
+
+pub returns : goal.returns
+unfolding Left
+returns c =
+    let pre = c.requires in
+    let runs = c.power.ensures in
+    let holds = put_holds _ pre.in_bounds.1 pre.in_bounds_2.1 c.put_runs.ensures c.put_levels.ensures in
+    (held_answer holds (runs ∙ sym (sheet_runs pre.field_stands)) (sym (sheet_columns pre.field_stands)) c.sheet_answer.ensures, holds)
