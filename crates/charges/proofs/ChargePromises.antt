@@ -14,7 +14,7 @@ use lib.ListN.{length, get_or}
 use Rattle.finite.proofs.Tests.{T_eqb}
 use Rattle.counting.specs.Table.{table_of}
 use Rattle.given_sheet.specs.Given.{WellFormed, well_formed, given_sheet}
-use Rattle.given_sheet.proofs.Given.{leb-iff, both_iff, passed, well-formed-iff}
+use Rattle.given_sheet.proofs.Given.{leb_iff, both_iff, passed, well_formed_iff}
 use Rattle.given_sheet.proofs.Sheet.{given_columns}
 use Rattle.charges.specs.Charge.{price_sum, hundredfold, charge}
 use Rattle.charges.specs.ChargePromise.{charge_answer, charge_given, Charged, ChargePromise}
@@ -72,7 +72,7 @@ module _ {A B : Type 0} where
 module _ (discount many m : ℕ) where
   -- a price list that serves m columns
   serves_iff : T (leb discount 100 && eqb many m) ↔ ((discount ≤ 100) × (many ≡ m))
-  serves_iff = both_iff (leb discount 100) (eqb many m) (leb-iff discount 100) (eqb→eq many m, T_eqb many m)
+  serves_iff = both_iff (leb discount 100) (eqb many m) (leb_iff discount 100) (eqb→eq many m, T_eqb many m)
 
   pub served : (leb discount 100 && eqb many m) ≡ true → (discount ≤ 100) × (many ≡ m)
   served e = serves_iff.0 (passed _ e)
@@ -114,7 +114,7 @@ pub charge_promised : (N m : ℕ) (levels table : List ℕ) (run_price : ℕ) (p
 unfolding charge_given charge_answer
 charge_promised N m levels table run_price prices discount low each settled =
     let many = length prices in
-    let says = in_turn (well_formed N m levels table) (leb discount 100 && eqb many m) (well-formed-iff N m levels table) (serves_iff discount many m) in
+    let says = in_turn (well_formed N m levels table) (leb discount 100 && eqb many m) (well_formed_iff N m levels table) (serves_iff discount many m) in
     rw (settled.0, settled.1)
     record {
       answered = refl;

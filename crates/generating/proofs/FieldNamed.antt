@@ -2,14 +2,11 @@
 -- Assumes nothing.
 use mathlib.Core.Path.{◌≡◌, refl, sym, ◌∙◌, ap}
 use mathlib.Core.Logic.{⊎_elim}
-use mathlib.Core.List.{List, [], ◌∷◌}
+use mathlib.Core.List.{List}
 use mathlib.Core.Option.{none, some, map, bind}
 use Prim.Native.Nat.{ℕ, zero, suc, ◌+◌, ◌*◌, ◌≤◌}
 use native.Mathlib.Omega.{arith}
 use lib.ListN.{get_or, take, drop, get_elem?, length-append}
-use denote.Enum.Declared.{tag_of}
-use types.Run.{OneOf}
-use Rattle.order.specs.contracts.Located.{the_type}
 use Rattle.order.specs.Order.{Ingredient, generator, FactorWidth, IngredientLimits, written_ingredient}
 use Rattle.order.specs.Grammar.{read_order}
 use Rattle.order.specs.Answers.{located}
@@ -106,20 +103,18 @@ field_outcome {list} {at} readable stands =
     ∙ ap (λ found. provided (map field_step found) (StepNotAllowed 1) (sized 1))
     (listed_at list readable.order readable.reads as_generator (get_or list at 0) (field_number readable stands))
 
-two_another : (tag : ℕ) → tag ≡ 2 → OneOf (0 ∷ 1 ∷ 3 ∷ []) tag → ⊥
-two_another tag e h = ⊎_elim (λ p. omega arith) (⊎_elim (λ p. omega arith) (λ p. omega arith)) h
-
 -- a table, a matrix and nothing are no generator
-no_generator : (list : List ℕ) (found : Located) → OneOf (0 ∷ 1 ∷ 3 ∷ []) (tag_of the_type found) → bind (ingredient_in list found) as_generator ≡ none
+no_generator : (list : List ℕ) (found : Located) → ((g : GeneratorAt) → found ≡ places_of g → ⊥) → bind (ingredient_in list found) as_generator ≡ none
 unfolding bind as_generator
 no_generator list (TableAt rows columns levels entries) h = refl
 no_generator list (MatrixAt rows columns p entries) h = refl
-no_generator list (GeneratorIs t n s widths width entries) h = absurd (two_another 2 refl h)
+no_generator list (GeneratorIs t n s widths width entries) h =
+    absurd (h (record { t = t; n = n; s = s; widths_at = widths; width = width; entries_at = entries }) refl)
 no_generator list Missing h = refl
 
 -- question 5: a No where ingredient i is no generator
 pub field_refused : {list : List ℕ} {at : ℕ} → Readable list → Stands list 2 at
-    → (found : Located) → found ≡ ingredient_at (read_order list) (get_or list at 0) → OneOf (0 ∷ 1 ∷ 3 ∷ []) (tag_of the_type found)
+    → (found : Located) → found ≡ ingredient_at (read_order list) (get_or list at 0) → ((g : GeneratorAt) → found ≡ places_of g → ⊥)
     → first_in list 2 at ≡ refused (StepNotAllowed 1)
 unfolding provided
 field_refused {list} readable stands found e other =

@@ -14,7 +14,7 @@ use Rattle.counting.specs.Table.{Table, table_of}
 use Rattle.pieces.specs.Padded.{zeros, padded}
 use Rattle.pieces.proofs.Padded.{padded_front}
 use Rattle.given_sheet.specs.Given.{WellFormed, well_formed, given_sheet}
-use Rattle.given_sheet.proofs.Given.{well-formed-iff, stands-formed}
+use Rattle.given_sheet.proofs.Given.{well_formed_iff, stands_formed}
 use Rattle.given_sheet.proofs.Sheet.{given_columns}
 use Rattle.page_text.specs.Pages.{page_count, page_text}
 use Rattle.page_text.proofs.Counts.{pages_most}
@@ -120,9 +120,9 @@ module _ (N m : ℕ) (levels table : List ℕ) (number room : ℕ) where
 
       go : (b : Bool) → well_formed N m levels table ≡ b → Case (page_answer N m levels table number room)
       go false e =
-          subst Case (sheet_refused N m levels table number room e).0 (bad (λ w. absurd (subst T e ((well-formed-iff N m levels table).1 w))))
+          subst Case (sheet_refused N m levels table number room e).0 (bad (λ w. absurd (subst T e ((well_formed_iff N m levels table).1 w))))
       go true e =
-          let w = stands-formed N m levels table e in
+          let w = stands_formed N m levels table e in
           by_cases (dec_lt room 4800)
           (λ (h : room < 4800). subst Case (buffer_refused N m levels table number room e h).0 (short w h))
           (λ h. paged e w (omega arith))

@@ -19,7 +19,7 @@ use Rattle.page_text.proofs.Counts.{parts_some, first_run_there, first_column_th
 use Rattle.page_text.proofs.Lines.{closed_length, closed_few}
 use Rattle.page_text.proofs.Aligned.{aligned_length}
 use Rattle.decimals.proofs.Decimals.{decimal_length}
-use Rattle.given_sheet.proofs.Given.{run-within}
+use Rattle.given_sheet.proofs.Given.{run_within}
 use Rattle.page_putting.specs.Part.{part_of, PartIn, part_line}
 use Rattle.page_putting.specs.declared.Part.{Part}
 
@@ -41,7 +41,7 @@ slice_map xs s a k h =
 module _ {N m : ℕ} {table : List ℕ} {part : Part} (there : PartIn N m table part) where
   -- the levels of a run on the page lie within the table
   pub levels_within : {r : ℕ} → r < N → r * m + part.end ≤ length table
-  levels_within {r} h = omega (arith, run-within r m refl h there.entries_there, there.end_within)
+  levels_within {r} h = omega (arith, run_within r m refl h there.entries_there, there.end_within)
 
   -- they are below 1,000
   levels_below : {r : ℕ} → r < N → Below 1000 (take (part.end - part.column) (drop (r * m + part.column) table))

@@ -8,7 +8,7 @@ use borrow.Author.Rules.{rules}
 use borrow.Author.Tests.{not-true, not-false}
 use lib.ListN.{length, get_or}
 use Rattle.given_sheet.specs.Given.{well_formed}
-use Rattle.given_sheet.proofs.Given.{stands-formed}
+use Rattle.given_sheet.proofs.Given.{stands_formed}
 use Rattle.charges.proofs.ChargePromises.{sheet_refused, prices_refused, sheet_priced, served, charge_promised}
 use Rattle.charging.proofs.Changes.{Summed, summed}
 use Rattle.charging.proofs.charge_sheet.Statement.{statement}
@@ -51,19 +51,19 @@ serves c = served _ _ _ (not-false _ c.if2.false)
 mul_sum : tie.Need-overflow-mul-sum
 mul_sum c =
     let start = c.before.before.before.before.before.before in
-    omega (arith, mul-le-mul (stands-formed _ _ _ _ (stands c.before)).runs_most (run_most start))
+    omega (arith, mul-le-mul (stands_formed _ _ _ _ (stands c.before)).runs_most (run_most start))
 
 price_changes_requires : tie.Need-price-changes-requires
 price_changes_requires c κs =
-    let sheet = stands-formed _ _ _ _ (stands c.before) in rw (serves c).1 (sheet.runs_most, sheet.columns_most, sheet.entries_there)
+    let sheet = stands_formed _ _ _ _ (stands c.before) in rw (serves c).1 (sheet.runs_most, sheet.columns_most, sheet.entries_there)
 
 -- what the runs and the changes come to
 sum_of : (c : tie.After-price-changes) → let a = c.before.before.before.before.before.before.before.args in
-    Summed (stands-formed _ _ _ _ (stands c.before.before)) a.run_price a.prices.now a.discount (a.runs * a.run_price + c.price-changes.result)
+    Summed (stands_formed _ _ _ _ (stands c.before.before)) a.run_price a.prices.now a.discount (a.runs * a.run_price + c.price-changes.result)
 sum_of c =
     let known = c.before.before.before.before in
     let start = known.before.before.before in
-    summed (stands-formed _ _ _ _ (stands c.before.before)) _ start.args.prices.now _ (run_most start) (prices_most known) (serves c.before).1 c.price-changes.ensures
+    summed (stands_formed _ _ _ _ (stands c.before.before)) _ start.args.prices.now _ (run_most start) (prices_most known) (serves c.before).1 c.price-changes.ensures
 
 add_sum : tie.Need-overflow-add-sum
 add_sum c = omega (arith, (sum_of c).sum_fits)

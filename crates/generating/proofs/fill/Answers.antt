@@ -19,18 +19,6 @@ power-requires c =
     let known = c.requires.field_stands in
     (size_positive _ known.size, le_trans c.widest-width.ensures.1 (lit≤ tt))
 
-pub put_runs-requires-clause-field_stands : goal.put_runs-requires-clause-field_stands
-put_runs-requires-clause-field_stands c =
-    let pre = c.requires in
-    let widest = c.widest-width in
-    let most = c.power.ensures in pre.field_stands
-
-pub put_runs-requires-clause-runs_value : goal.put_runs-requires-clause-runs_value
-put_runs-requires-clause-runs_value c =
-    let pre = c.requires in
-    let widest = c.widest-width in
-    let most = c.power.ensures in c.power-runs.ensures
-
 pub put_runs-requires-clause-sums : goal.put_runs-requires-clause-sums
 put_runs-requires-clause-sums c =
     let pre = c.requires in
@@ -43,17 +31,11 @@ put_runs-requires-clause-sums c =
       all = rw most c.level_sums-sums.ensures;
     }
 
-pub put_runs-requires-clause-in_bounds : goal.put_runs-requires-clause-in_bounds
-put_runs-requires-clause-in_bounds c =
-    let pre = c.requires in
-    let widest = c.widest-width in
-    let most = c.power.ensures in pre.in_bounds.0
-
 pub sheet_answer-requires : goal.sheet_answer-requires
 sheet_answer-requires c =
     let pre = c.requires in
     held_limits (put_holds _ pre.in_bounds.1 pre.in_bounds_2.1 c.put_runs.ensures c.put_levels.ensures)
-    (c.power.ensures ∙ sym (sheet_runs pre.field_stands))
+    (c.power-runs.ensures ∙ sym (sheet_runs pre.field_stands))
     (sym (sheet_columns pre.field_stands))
     (generator_small pre.field_stands)
 
@@ -61,6 +43,6 @@ pub returns : goal.returns
 unfolding Left
 returns c =
     let pre = c.requires in
-    let runs = c.power.ensures in
+    let runs = c.power-runs.ensures in
     let holds = put_holds _ pre.in_bounds.1 pre.in_bounds_2.1 c.put_runs.ensures c.put_levels.ensures in
     (held_answer holds (runs ∙ sym (sheet_runs pre.field_stands)) (sym (sheet_columns pre.field_stands)) c.sheet_answer.ensures, holds)

@@ -13,8 +13,9 @@ use Rattle.galois.proofs.Fields.{size_positive}
 use Rattle.generated_runs.proofs.LevelSums.{sums_none, earlier_in, sums_more, sum_small}
 use Rattle.generating.proofs.level_sums.Goals as goal
 
-digit_fits : (c : tie.In-loop invariant_loop decreases_loop) (x : ℕ) → Fits w8 (x % c.before.before.before.args.s)
-digit_fits c x = omega (arith, mod-lt x (positive c), c.before.before.before.ranges.s)
+-- a digit fits a byte
+digit_fits : (s x : ℕ) → 0 < s → s < 256 → Fits w8 (x % s)
+digit_fits s x positive small = omega (arith, mod-lt x positive)
 
 pub power-most-requires : goal.power-most-requires
 power-most-requires c = (size_positive _ c.requires.0, le_trans c.requires.1 (lit≤ tt))
@@ -132,7 +133,7 @@ nonzero_rem-x c =
     positive
 
 pub overflow_cast-x : goal.overflow_cast-x
-overflow_cast-x c = digit_fits c _
+overflow_cast-x c = digit_fits c.args.s _ (size_positive _ c.requires.0) (omega (arith, c.ranges.s))
 
 pub nonzero_rem-y-in-loop-place : goal.nonzero_rem-y-in-loop-place
 nonzero_rem-y-in-loop-place c =
@@ -142,7 +143,7 @@ nonzero_rem-y-in-loop-place c =
     positive
 
 pub overflow_cast-y : goal.overflow_cast-y
-overflow_cast-y c = digit_fits c _
+overflow_cast-y c = digit_fits c.args.s _ (size_positive _ c.requires.0) (omega (arith, c.ranges.s))
 
 pub sum-requires : goal.sum-requires
 sum-requires c =

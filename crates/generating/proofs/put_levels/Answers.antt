@@ -1,7 +1,6 @@
 -- `put_levels` meets its contract. The invariant: the level counts of the first factors are put.
 -- Assumes nothing.
 use mathlib.Core.Path.{sym, ◌∙◌}
-use Prim.Native.Nat.{◌+◌}
 use native.Mathlib.Omega.{arith}
 use borrow.Author.Rules.{rules}
 use Rattle.galois.proofs.Fields.{size_positive}
@@ -21,9 +20,6 @@ offset_bounds-list-widths_at c = let k = c.requires.field_stands in omega (arith
 
 pub bounds-list-widths_at : goal.bounds-list-widths_at
 bounds-list-widths_at c = let k = c.requires.field_stands in omega (arith, k.widths_there)
-
-pub overflow_cast-width : goal.overflow_cast-width
-overflow_cast-width c = omega (arith, c.shared_slice_known-in-loop-factor-1.given (c.args.g.widths_at + c.loop-factor.factor))
 
 pub power-requires : goal.power-requires
 power-requires c =

@@ -1,6 +1,5 @@
 -- `widest` meets its contract. The invariant: no factor so far has more columns, and so many make at most 64 levels.
 -- Assumes nothing.
-use Prim.Native.Nat.{◌+◌}
 use native.Mathlib.Nat.{pow-zero}
 use native.Mathlib.Omega.{arith}
 use lib.Dec.{lit≤}
@@ -21,10 +20,6 @@ offset_bounds-list-widths_at c = let k = c.requires in omega (arith, k.widths_th
 
 pub bounds-list-widths_at : goal.bounds-list-widths_at
 bounds-list-widths_at c = let k = c.requires in omega (arith, k.widths_there)
-
-pub overflow_cast-list : goal.overflow_cast-list
-overflow_cast-list c =
-    omega (arith, c.shared_slice_known-in-loop-factor-1.given (c.args.g.widths_at + c.loop-factor.factor))
 
 pub loop-factor-preserved : goal.loop-factor-preserved
 loop-factor-preserved c =

@@ -10,7 +10,7 @@ use lib.ListN.{length}
 use Rattle.page_text.specs.Pages.{page_count, page_text}
 use Rattle.pieces.proofs.Padded.{put_padded}
 use Rattle.given_sheet.specs.Given.{well_formed, given_sheet}
-use Rattle.given_sheet.proofs.Given.{stands-formed}
+use Rattle.given_sheet.proofs.Given.{stands_formed}
 use Rattle.page_promise.proofs.PagePromises.{passed_conditions, sheet_refused, buffer_refused, page_refused, page_printed, page_promised}
 use Rattle.paging.proofs.print_page.Statement.{statement}
 use Rattle.paging.proofs.print_page.Tie as tie
@@ -52,7 +52,7 @@ long c = omega (arith, c.before.before.before.before.before.clear.auto.0, c.if2.
 
 page_count_requires : tie.Need-page-count-requires
 page_count_requires c κs =
-    let sheet = stands-formed _ _ _ _ (stands c.before) in (sheet.runs_most, sheet.columns_most)
+    let sheet = stands_formed _ _ _ _ (stands c.before) in (sheet.runs_most, sheet.columns_most)
 
 same_length_3 : tie.Need-same-length-3
 same_length_3 c = search rules
