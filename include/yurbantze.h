@@ -1,4 +1,4 @@
-/* The planner of mixed orthogonal run tables, for C. Link libexported.a, which `rt staticlib exported` writes to target/staticlib (x86-64 Linux).
+/* The planner of mixed orthogonal run tables, for C. Link libexported.a, which `rt lib` in crates/exported writes to crates/exported/out (x86-64 Linux).
  *
  * What is said here of a function is its contract in crates/exported/src/lib.rt, and proved, for a caller that keeps to "What a caller owes". */
 #ifndef YURBANTZE_H

@@ -1,7 +1,7 @@
 /* Plans the order whose numbers are the program's arguments after the word `for`, and prints what its sheet costs, or the refusal; document 02, K7. The
  * arguments before that word are the price list: the pence for a run, the pence for a changed level in each column, and the discount in percent.
  *
- *     gcc -std=c11 -Wall -Wextra -Iinclude examples/c/charge.c target/staticlib/libexported.a -o target/charge_c
+ *     gcc -std=c11 -Wall -Wextra -Iinclude examples/c/charge.c crates/exported/out/libexported.a -o target/charge_c
  *     target/charge_c 4500 1250 300 300 75 999 15 for 0 1 1 103
  */
 #include <inttypes.h>

@@ -1,7 +1,7 @@
 /* Checks the table whose numbers are the program's arguments, and prints whether it passes, or the refusal, then the gap, and how many pairs of columns were
  * counted; document 02, K5 and K8.
  *
- *     gcc -std=c11 -Wall -Wextra -Iinclude examples/c/check.c target/staticlib/libexported.a -o target/check_c
+ *     gcc -std=c11 -Wall -Wextra -Iinclude examples/c/check.c crates/exported/out/libexported.a -o target/check_c
  *     target/check_c 1 4 2 2 2 0 0 0 0 1 1 1 1
  */
 #include <inttypes.h>

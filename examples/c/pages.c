@@ -1,6 +1,6 @@
 /* Plans the order whose numbers are the program's arguments, and prints all pages of its sheet, or the refusal; document 02, K3.
  *
- *     gcc -std=c11 -Wall -Wextra -Iinclude examples/c/pages.c target/staticlib/libexported.a -o target/pages_c
+ *     gcc -std=c11 -Wall -Wextra -Iinclude examples/c/pages.c crates/exported/out/libexported.a -o target/pages_c
  *     target/pages_c 0 1 1 103
  */
 #include <stdio.h>

@@ -1,6 +1,6 @@
 /* Plans the order whose numbers are the program's arguments, and prints the runs, or the refusal, as documents 01 and 02 have them printed.
  *
- *     gcc -std=c11 -Wall -Wextra -Iinclude examples/c/plan.c target/staticlib/libexported.a -o target/plan_c
+ *     gcc -std=c11 -Wall -Wextra -Iinclude examples/c/plan.c crates/exported/out/libexported.a -o target/plan_c
  *     target/plan_c 0 2 1 101 4 2 1 2 3
  */
 #include <inttypes.h>

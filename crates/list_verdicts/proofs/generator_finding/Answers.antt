@@ -30,12 +30,12 @@ check_generator-finding-requires c =
 
 pub returns-clause-value : goal.returns-clause-value
 returns-clause-value c =
-    let pre = c.requires in rw (put_front c.copy-part2.ensures, put_front c.copy-part.ensures) at c.check_generator-finding.ensures
+    rw (put_front c.copy_part-2.ensures, put_front c.copy_part.ensures) at c.check_generator-finding.ensures
 
 pub returns-clause-cells_unchanged : goal.returns-clause-cells_unchanged
 returns-clause-cells_unchanged c =
-    let pre = c.requires in put_undone pre.room.cells_clear c.copy-part2.ensures c.clear_front.ensures
+    let pre = c.requires in put_undone pre.room.cells_clear c.copy_part-2.ensures c.clear_front.ensures
 
 pub returns-clause-numbers_unchanged : goal.returns-clause-numbers_unchanged
 returns-clause-numbers_unchanged c =
-    let pre = c.requires in put_undone pre.room.numbers_clear c.copy-part.ensures c.clear_front-2.ensures
+    let pre = c.requires in put_undone pre.room.numbers_clear c.copy_part.ensures c.clear_front-2.ensures

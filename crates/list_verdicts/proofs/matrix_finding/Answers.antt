@@ -20,8 +20,8 @@ check_matrix-finding-requires c =
 
 pub returns-clause-value : goal.returns-clause-value
 returns-clause-value c =
-    let pre = c.requires in rw (put_front c.copy-part.ensures) at c.check_matrix-finding.ensures
+    rw (put_front c.copy_part.ensures) at c.check_matrix-finding.ensures
 
 pub returns-clause-cells_unchanged : goal.returns-clause-cells_unchanged
 returns-clause-cells_unchanged c =
-    let pre = c.requires in put_undone pre.cells_value c.copy-part.ensures c.clear_front.ensures
+    let pre = c.requires in put_undone pre.cells_value c.copy_part.ensures c.clear_front.ensures

@@ -1,5 +1,6 @@
 -- `summing::sum` meets its contract: question 5 of the operands, and then question 6.
 use mathlib.Core.Path.{sym, ◌∙◌}
+use native.Mathlib.Nat.{le_of_lt}
 use native.Mathlib.Omega.{arith}
 use Rattle.layout.specs.Bytes.{sheet_in}
 use Rattle.sum_bytes.specs.Summing.{SumOperands}
@@ -35,9 +36,6 @@ bounds-list-at c =
     in
     omega (arith, operands.within)
 
-pub overflow_cast-end : goal.overflow_cast-end
-overflow_cast-end c = omega (arith, c.shared_slice_known-in-Named-1.given c.args.at)
-
 pub overflow_add-end : goal.overflow_add-end
 overflow_add-end c =
     let operands : SumOperands c.args.list.now c.args.at =
@@ -52,35 +50,17 @@ offset_bounds-list-start c =
     in
     omega (arith, operands.within)
 
-pub fitting_sum-requires-clause-ready : goal.fitting_sum-requires-clause-ready
-fitting_sum-requires-clause-ready c = (let named : AllNamed c.requires.ready.readable c.args.at c.in-Named.k =
-    let operands : SumOperands c.args.list.now c.args.at =
-    operands_known c.requires.ready.readable c.requires.stands
-    in
-    summands_named c.requires.ready.readable operands (sym c.in-Named.is ∙ c.summands.ensures)
-    in
-    let all = named in
-    rw part_same (c.requires.ready, ((all.some_matrices, all.first), (all.legible, all.narrow)))).0
-
 pub fitting_sum-requires-clause-ds_nonzero : goal.fitting_sum-requires-clause-ds_nonzero
-fitting_sum-requires-clause-ds_nonzero c = (let named : AllNamed c.requires.ready.readable c.args.at c.in-Named.k =
-    let operands : SumOperands c.args.list.now c.args.at =
-    operands_known c.requires.ready.readable c.requires.stands
-    in
-    summands_named c.requires.ready.readable operands (sym c.in-Named.is ∙ c.summands.ensures)
-    in
-    let all = named in
-    rw part_same (c.requires.ready, ((all.some_matrices, all.first), (all.legible, all.narrow)))).1.0
+fitting_sum-requires-clause-ds_nonzero c =
+    let operands = operands_known c.requires.ready.readable c.requires.stands in
+    let all = summands_named c.requires.ready.readable operands (sym c.in-Named.is ∙ c.summands.ensures) in
+    rw part_same (all.some_matrices, all.first)
 
 pub fitting_sum-requires-clause-legible : goal.fitting_sum-requires-clause-legible
-fitting_sum-requires-clause-legible c = (let named : AllNamed c.requires.ready.readable c.args.at c.in-Named.k =
-    let operands : SumOperands c.args.list.now c.args.at =
-    operands_known c.requires.ready.readable c.requires.stands
-    in
-    summands_named c.requires.ready.readable operands (sym c.in-Named.is ∙ c.summands.ensures)
-    in
-    let all = named in
-    rw part_same (c.requires.ready, ((all.some_matrices, all.first), (all.legible, all.narrow)))).1.1
+fitting_sum-requires-clause-legible c =
+    let operands = operands_known c.requires.ready.readable c.requires.stands in
+    let all = summands_named c.requires.ready.readable operands (sym c.in-Named.is ∙ c.summands.ensures) in
+    (all.legible, all.narrow)
 
 pub returns-in-Missing-clause-left : goal.returns-in-Missing-clause-left
 returns-in-Missing-clause-left c =
@@ -88,12 +68,6 @@ returns-in-Missing-clause-left c =
     operands_known c.requires.ready.readable c.requires.stands
     in left_unnamed c.requires.ready.readable c.args.at c.args.number (sheet_in c.args.table.now c.args.levels.now c.args.size) _ _ operands
     (sym c.in-Missing.is ∙ c.summands.ensures)
-
-pub returns-in-Missing-clause-zeros : goal.returns-in-Missing-clause-zeros
-returns-in-Missing-clause-zeros c =
-    let operands : SumOperands c.args.list.now c.args.at =
-    operands_known c.requires.ready.readable c.requires.stands
-    in c.requires.ready.scratch_clear
 
 pub returns-in-Named-clause-left : goal.returns-in-Named-clause-left
 returns-in-Named-clause-left c =
@@ -106,12 +80,5 @@ returns-in-Named-clause-left c =
     let made = c.fitting_sum in left_named c.requires.ready.readable c.args.at c.args.number (sheet_in c.args.table.now c.args.levels.now c.args.size) _ _ named made.result _ _
     (rw part_same at made.ensures.left)
 
-pub returns-in-Named-clause-zeros : goal.returns-in-Named-clause-zeros
-returns-in-Named-clause-zeros c =
-    let named : AllNamed c.requires.ready.readable c.args.at c.in-Named.k =
-    let operands : SumOperands c.args.list.now c.args.at =
-    operands_known c.requires.ready.readable c.requires.stands
-    in
-    summands_named c.requires.ready.readable operands (sym c.in-Named.is ∙ c.summands.ensures)
-    in
-    let made = c.fitting_sum in made.ensures.zeros
+pub slice_bounds-fitting_sum-end : goal.slice_bounds-fitting_sum-end
+slice_bounds-fitting_sum-end c = let operands = operands_known c.requires.ready.readable c.requires.stands in le_of_lt operands.within

@@ -1,0 +1,13 @@
+-- `page_counts::page_count` meets its contract.
+use native.Mathlib.Omega.{arith}
+use Rattle.page_text.specs.Pages.{parts, page_count}
+use Rattle.page_text.proofs.Counts.{pages_most}
+use Rattle.page_counts.proofs.page_count.Goals as goal
+
+pub returns : goal.returns
+unfolding page_count parts
+returns c = rw c.run_parts.ensures
+
+pub overflow_mul-result : goal.overflow_mul-result
+overflow_mul-result c =
+    omega (arith, returns c, pages_most c.args.runs c.args.columns c.requires.0 c.requires.1)
