@@ -13,52 +13,63 @@ ghost use Rattle.std.specs.Prelude.{◌≡◌, ◌≤◌, ◌<◌, length};
 use charges::Quote;
 use charging::charge_sheet;
 use input::scan_input;
-use libc::STDOUT_FILENO;
+use std::io;
 use stored_calls::{least, long_number_at, number_at};
 use stored_sheets::{StoredSheet, repeat, sheet_at};
 use words::Scanned;
 
-fn main() {
+fn main(rt: HostRuntime) -> io::Result<()> {
     let mut list = [0u16; 32768];
-    match scan_input(&mut list) {
-        Scanned::Numbers { count } => answer_calls(&list, count),
-        Scanned::Refused { place: _ } => {}
+    match scan_input(&mut rt.stdin(), &mut list) {
+        Scanned::Numbers { count } => answer_calls(&rt, &list, count),
+        Scanned::Refused { place: _ } => Ok(()),
     }
 }
 
 // Answers the calls that so many numbers at the front of a list hold, one after the other.
-fn answer_calls(list: &[u16], count: usize)
+fn answer_calls(rt: &impl Print, list: &[u16], count: usize) -> io::Result<()>
     requires { length list.now ≡ 32768 }
 {
     let mut at = 0;
     while at < least(count, 32768) {
-        at = answer_call(list, at);
+        at = answer_call(rt, list, at);
     }
+    Ok(())
 }
 
 // Answers the call at a place of a list, and returns the place after it.
-fn answer_call(list: &[u16], at: usize) -> usize
+fn answer_call(rt: &impl Print, list: &[u16], at: usize) -> usize
     requires { at < 32768 }
     ensures { at < result }
 {
     let priced = least(number_at(list, at + 6), 255);
     let sheet = sheet_at(list, at + 7 + 2 * priced);
-    make_call(list, at, priced, sheet);
+    match make_call(rt, list, at, priced, sheet) {
+        Ok(()) => {}
+        Err(_) => {}
+    }
     sheet.cells + sheet.given
 }
 
 // Makes the call at a place of a list, with so many prices of columns, for such a sheet.
-fn make_call(list: &[u16], at: usize, priced: usize, sheet: StoredSheet)
+fn make_call(
+    rt: &impl Print,
+    list: &[u16],
+    at: usize,
+    priced: usize,
+    sheet: StoredSheet,
+) -> io::Result<()>
     requires at_bound { (at < 32768) × (priced ≤ 255) }
     requires levels_bound { (sheet.levels ≤ 65536) × (sheet.counts ≤ 255) × (sheet.bytes ≤ 65536) × (sheet.cells ≤ 65536) × (sheet.given ≤ 4096) }
 {
     let mut prices = [0u32; 255];
     let mut levels = [0u8; 255];
-    let mut table = io::large_buffer();
+    let mut table = table_room();
     put_prices(list, at + 7, &mut prices);
     repeat(list, sheet.levels, sheet.counts, &mut levels);
     repeat(list, sheet.cells, sheet.given, &mut table);
     charge_and_write(
+        rt,
         list,
         at,
         &table,
@@ -67,7 +78,14 @@ fn make_call(list: &[u16], at: usize, priced: usize, sheet: StoredSheet)
         sheet.counts,
         &prices,
         priced,
-    );
+    )
+}
+
+// Room for any table. The contract tells the length alone, so that no proof writes the zeros out.
+fn table_room() -> [u8; 65536]
+    ensures { 65536 ≡ length result }
+{
+    [0; 65536]
 }
 
 // Puts prices into an array until it is full, from a place of a list on.
@@ -83,6 +101,7 @@ fn put_prices(list: &[u16], start: usize, prices: &mut [u32])
 
 // Charges the sheet of a call, which is in the fronts of two buffers, by a price list whose prices of columns are in the front of a third, and writes what is answered.
 fn charge_and_write(
+    rt: &impl Print,
     list: &[u16],
     at: usize,
     table: &[u8],
@@ -91,7 +110,7 @@ fn charge_and_write(
     many: usize,
     prices: &[u32],
     priced: usize,
-)
+) -> io::Result<()>
     requires { (at < 32768) × (long ≤ length table.now) × (many ≤ length levels.now) × (priced ≤ length prices.now) }
 {
     let runs = number_at(list, at);
@@ -107,13 +126,10 @@ fn charge_and_write(
         &prices[..priced],
         discount,
     );
-    write_quote(quote);
+    write_quote(rt, quote)
 }
 
 // Writes the line of an answer.
-fn write_quote(quote: Quote) {
-    io::print_decimal(STDOUT_FILENO, quote.answer as u64);
-    io::write_all(STDOUT_FILENO, b" ");
-    io::print_decimal(STDOUT_FILENO, quote.charge);
-    io::write_all(STDOUT_FILENO, b"\n");
+fn write_quote(rt: &impl Print, quote: Quote) -> io::Result<()> {
+    println!(rt; "{} {}", quote.answer, quote.charge)
 }

@@ -3,7 +3,7 @@
 // crates/check_report/specs/CheckReport.antt.
 #![tactic(auto)]
 
-ghost use Rattle.std.specs.Prelude.{◌≤◌, length, take};
+ghost use Rattle.std.specs.Prelude.{◌≡◌, ◌≤◌, length, take};
 ghost use Rattle.buffers.specs.Put.{Put};
 ghost use Rattle.words.specs.Scanner.{scanned_reading, Ended};
 ghost use Rattle.sheets.specs.declared.answer.Refusal.TheVariants.{Unreadable};
@@ -13,33 +13,34 @@ ghost use Rattle.check_report.specs.CheckReport.{check_printed, reading_checked,
 
 use check_report::put_check;
 use input::scan_input;
-use libc::STDOUT_FILENO;
 use question_4::Passing;
 use sheets::answer::Refusal;
+use std::io;
+use std::io::Read;
 use words::Scanned;
 use written_check::check_written;
 use written_table::TableCheck;
 
-fn main() {
+fn main(rt: HostRuntime) -> io::Result<()> {
     let mut out = [0u8; 207];
-    let end = answer_input(&mut out);
-    write_answer(&out[..end]);
+    let end = answer_input(&mut rt.stdin(), &mut out);
+    write_answer(&rt, &out[..end])
 }
 
 // Writes an answer, and nothing else.
-fn write_answer(bytes: &[u8])
+fn write_answer(rt: &impl Print, bytes: &[u8]) -> io::Result<()>
     requires { AnsweringBy reading_checked bytes.now }
 {
-    io::write_all(STDOUT_FILENO, bytes);
+    rt.write_all(bytes)
 }
 
 // Puts what is printed for standard input, whole, at the front of a buffer.
-fn answer_input(out: &mut [u8]) -> usize
+fn answer_input<R: Read>(reader: &mut R, out: &mut [u8]) -> usize
     requires { check_room ≤ length out.old }
     ensures { (result ≤ length out.new) × AnsweringBy reading_checked (take result out.new) }
 {
     let mut list = [0u16; 32768];
-    let scanned = scan_input(&mut list);
+    let scanned = scan_input(reader, &mut list);
     put_scanned(scanned, &list, out)
 }
 

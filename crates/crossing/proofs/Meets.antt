@@ -1,18 +1,17 @@
 -- Questions 6 to 8 of CROSS, with that of 02, K6: from the single answers, and from the sheet that is built to the definition's.
 -- Assumes nothing.
-use mathlib.Core.Path.{◌≡◌, refl, sym, ◌∙◌, ap, subst}
-use mathlib.Core.Bool.{true, false, cond, ◌&&◌, and-false}
+use mathlib.Core.Path.{◌≡◌, refl, sym, ◌∙◌, subst}
+use mathlib.Core.Bool.{true, false}
 use mathlib.Core.List.{List}
 use mathlib.Core.Option.{Option, none, some, map}
 use Prim.Native.Nat.{ℕ, ◌≤◌}
 use native.Mathlib.Omega.{arith}
 use borrow.Author.Tests.{eq-eqb, ne_eqb}
-use lib.Dec.{eqb}
 use lib.ListN.{length}
 use Rattle.counting.specs.Matrix.{Matrix}
 use Rattle.counting.specs.Table.{Table, columns, table_of}
 use Rattle.step_tables.specs.Sheet.{Agree, SmallEnough}
-use Rattle.step_tables.specs.Sum.{level_sum, rows_of, adjoined_table, sum_step, sum_fits}
+use Rattle.step_tables.specs.Sum.{level_sum, rows_of, adjoined_table, sum_step}
 use Rattle.step_tables.specs.Cross.{ValueFault, serving_fault, cross_fits, cross_step}
 use Rattle.step_tables.proofs.Agreement.{agree_sym, agree_trans, agree_columns}
 use Rattle.sheets.specs.Steps.{unless, cross, fits, value_refusal, uneven_matrix, wrong_member, applied, sized, after_sums, operate}
@@ -32,7 +31,7 @@ use Rattle.sum_bytes.proofs.SumSheet.{left_same}
 use Rattle.matrix_balance.specs.Balance.{balance_of}
 use Rattle.matrix_balance.specs.declared.Balance.TheVariants.{Even, Uneven}
 use Rattle.crossed_sheet.specs.Crossing.{crossed_sheet}
-use Rattle.crossed_sheet.proofs.Crossed.{crossed_columns, crossed_agrees, cross_meets}
+use Rattle.crossed_sheet.proofs.Crossed.{crossed_agrees, cross_meets}
 
 -- ---- what the search answers
 

@@ -4,7 +4,7 @@ use mathlib.Core.Path.{◌≡◌, refl, ◌∙◌}
 use mathlib.Core.Logic.{⊎_elim}
 use mathlib.Core.Bool.{true, false}
 use mathlib.Core.List.{List}
-use mathlib.Core.Option.{none, some, bind}
+use mathlib.Core.Option.{none, bind}
 use Prim.Native.Nat.{ℕ, ◌≤◌}
 use Rattle.counting.specs.Table.{Table}
 use Rattle.order.specs.Order.{CROSS}

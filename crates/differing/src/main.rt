@@ -2,6 +2,6 @@
 // was seen, and no other.
 #![tactic(auto)]
 
-fn main() {
-    records::compare_all();
+fn main(rt: HostRuntime) {
+    records::compare_all(&rt, &mut rt.stdin());
 }

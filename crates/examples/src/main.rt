@@ -2,6 +2,6 @@
 // proved as well, in `sheets`.
 #![tactic(auto)]
 
-fn main() {
-    records::compare_all();
+fn main(rt: HostRuntime) {
+    records::compare_all(&rt, &mut rt.stdin());
 }

@@ -1,10 +1,10 @@
 // The numbers of standard input, which is read as far as they need it: up to its end, or to a word that is refused (document 01, "Printed runs"); and what answers it, as a definition.
 #![tactic(auto)]
 
-ghost use Rattle.std.specs.Prelude.{◌≡◌, length};
+ghost use Rattle.std.specs.Prelude.{◌≡◌, ◌≤◌, length};
 ghost use Rattle.input.specs.Input.{after_read, ScannedInput};
 
-use libc::STDIN_FILENO;
+use std::io::Read;
 use words::{Scan, Scanned};
 
 // What comes after a read: another one, from where the scanner stands, or the answer.
@@ -16,7 +16,7 @@ enum Next {
 
 // The numbers of standard input, which is read in pieces, up to its end or to a word that is refused; a read that fails ends it too. A proved loop
 // has to end, and nothing says that the input does, so the reads are counted down from a number that no input reaches.
-pub fn scan_input(list: &mut [u16; 32768]) -> Scanned
+pub fn scan_input<R: Read>(reader: &mut R, list: &mut [u16; 32768]) -> Scanned
     requires { length list.old ≡ 32768 }
     ensures { ScannedInput result list.new }
 {
@@ -24,8 +24,7 @@ pub fn scan_input(list: &mut [u16; 32768]) -> Scanned
     let mut state = scanning::start();
     let mut reads_left = u64::MAX;
     while reads_left > 0 {
-        let got = libc::read(STDIN_FILENO, &mut piece);
-        let n = io::count(got, &piece);
+        let n = bytes_read(reader, &mut piece);
         match after_read(state, &piece[..n], list) {
             Next::Read(next) => {
                 state = next;
@@ -37,6 +36,16 @@ pub fn scan_input(list: &mut [u16; 32768]) -> Scanned
         reads_left -= 1;
     }
     scanning::finish(state, list)
+}
+
+// How many bytes a read put at the front of a piece: none at the end of the input, and none where the read failed.
+fn bytes_read<R: Read>(reader: &mut R, piece: &mut [u8]) -> usize
+    ensures { result ≤ length piece.old }
+{
+    match reader.read(piece) {
+        Ok(n) => n,
+        Err(_) => 0,
+    }
 }
 
 // What comes after a read that gave these bytes: none end the text, and a word that is refused ends the reading.

@@ -11,52 +11,63 @@
 ghost use Rattle.std.specs.Prelude.{◌≡◌, ◌≤◌, ◌<◌, length};
 
 use input::scan_input;
-use libc::STDOUT_FILENO;
 use paging::print_page;
+use std::io;
 use stored_calls::{least, number_at};
 use stored_sheets::{StoredSheet, repeat, sheet_at};
 use words::Scanned;
 
-fn main() {
+fn main(rt: HostRuntime) -> io::Result<()> {
     let mut list = [0u16; 32768];
-    match scan_input(&mut list) {
-        Scanned::Numbers { count } => answer_calls(&list, count),
-        Scanned::Refused { place: _ } => {}
+    match scan_input(&mut rt.stdin(), &mut list) {
+        Scanned::Numbers { count } => answer_calls(&rt, &list, count),
+        Scanned::Refused { place: _ } => Ok(()),
     }
 }
 
 // Answers the calls that so many numbers at the front of a list hold, one after the other.
-fn answer_calls(list: &[u16], count: usize)
+fn answer_calls(rt: &impl Print, list: &[u16], count: usize) -> io::Result<()>
     requires { length list.now ≡ 32768 }
 {
     let mut at = 0;
     while at < least(count, 32768) {
-        at = answer_call(list, at);
+        at = answer_call(rt, list, at);
     }
+    Ok(())
 }
 
 // Answers the call at a place of a list, and returns the place after it.
-fn answer_call(list: &[u16], at: usize) -> usize
+fn answer_call(rt: &impl Print, list: &[u16], at: usize) -> usize
     requires { at < 32768 }
     ensures { at < result }
 {
     let room = least(number_at(list, at + 3), 8192);
     let sheet = sheet_at(list, at + 4);
-    make_call(list, at, sheet, room);
+    match make_call(rt, list, at, sheet, room) {
+        Ok(()) => {}
+        Err(_) => {}
+    }
     sheet.cells + sheet.given
 }
 
 // Makes the call at a place of a list, for such a sheet, with so much room for the page.
-fn make_call(list: &[u16], at: usize, sheet: StoredSheet, room: usize)
+fn make_call(
+    rt: &impl Print,
+    list: &[u16],
+    at: usize,
+    sheet: StoredSheet,
+    room: usize,
+) -> io::Result<()>
     requires at_bound { (at < 32768) × (room ≤ 8192) }
     requires levels_bound { (sheet.levels ≤ 65536) × (sheet.counts ≤ 255) × (sheet.bytes ≤ 65536) × (sheet.cells ≤ 65536) × (sheet.given ≤ 4096) }
 {
     let mut levels = [0u8; 255];
-    let mut table = io::large_buffer();
+    let mut table = table_room();
     let mut page = other_bytes();
     repeat(list, sheet.levels, sheet.counts, &mut levels);
     repeat(list, sheet.cells, sheet.given, &mut table);
     print_and_write(
+        rt,
         list,
         at,
         &table,
@@ -65,7 +76,14 @@ fn make_call(list: &[u16], at: usize, sheet: StoredSheet, room: usize)
         sheet.counts,
         &mut page,
         room,
-    );
+    )
+}
+
+// Room for any table. The contract tells the length alone, so that no proof writes the zeros out.
+fn table_room() -> [u8; 65536]
+    ensures { 65536 ≡ length result }
+{
+    [0; 65536]
 }
 
 // Bytes that are not zero. The contract tells the length alone, so that no proof writes them out.
@@ -77,6 +95,7 @@ fn other_bytes() -> [u8; 8192]
 
 // Prints the page that a call asks for, of a sheet in the fronts of two buffers, to the front of a third, and writes what is answered.
 fn print_and_write(
+    rt: &impl Print,
     list: &[u16],
     at: usize,
     table: &[u8],
@@ -85,7 +104,7 @@ fn print_and_write(
     many: usize,
     page: &mut [u8],
     room: usize,
-)
+) -> io::Result<()>
     requires { (at < 32768) × (long ≤ length table.now) × (many ≤ length levels.now) × (room ≤ length page.old) }
 {
     let runs = number_at(list, at);
@@ -99,32 +118,31 @@ fn print_and_write(
         number,
         &mut page[..room],
     );
-    write_answer(answer, &page[..room]);
+    write_answer(rt, answer, &page[..room])
 }
 
 // Writes an answer, how many bytes are not zero that should be, and the page that was printed.
-fn write_answer(answer: usize, page: &[u8]) {
-    io::print_decimal(STDOUT_FILENO, answer as u64);
-    io::write_all(STDOUT_FILENO, b" ");
+fn write_answer(rt: &impl Print, answer: usize, page: &[u8]) -> io::Result<()> {
+    print!(rt; "{answer} ")?;
     if answer == 0 {
-        write_others(page, 4800);
-        write_page(page);
+        write_others(rt, page, 4800)?;
+        write_page(rt, page)
     } else {
-        write_others(page, 0);
+        write_others(rt, page, 0)
     }
 }
 
 // Writes how many bytes from a place on are not zero, and ends the line.
-fn write_others(bytes: &[u8], start: usize) {
-    io::print_decimal(STDOUT_FILENO, count_others(bytes, start) as u64);
-    io::write_all(STDOUT_FILENO, b"\n");
+fn write_others(rt: &impl Print, bytes: &[u8], start: usize) -> io::Result<()> {
+    println!(rt; "{}", count_others(bytes, start))
 }
 
 // Writes a page.
-fn write_page(bytes: &[u8]) {
+fn write_page(rt: &impl Print, bytes: &[u8]) -> io::Result<()> {
     if 4800 <= bytes.len() {
-        io::write_all(STDOUT_FILENO, &bytes[..4800]);
+        rt.write_all(&bytes[..4800])?;
     }
+    Ok(())
 }
 
 // How many bytes from a place on are not zero.

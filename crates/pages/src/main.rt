@@ -12,25 +12,27 @@ ghost use Rattle.page_argument.specs.PageArgument.{asked_by};
 ghost use Rattle.page_argument.specs.declared.Asked.TheVariants.{All};
 
 use input::scan_input;
-use libc::STDOUT_FILENO;
 use page_argument::{Asked, asked_by};
 use page_printing::plan_and_put_pages;
 use report::put_refused;
 use sheets::answer::Refusal;
+use std::env::{Env, FillError};
+use std::io;
+use std::io::Read;
 use words::Scanned;
 
-fn main() {
-    let asked = page_asked();
+fn main(rt: HostRuntime) -> io::Result<()> {
+    let asked = page_asked(&rt);
     let mut out = page_room();
-    let end = answer_input(asked, &mut out);
-    write_pages(asked, &out[..end]);
+    let end = answer_input(&mut rt.stdin(), asked, &mut out);
+    write_pages(&rt, asked, &out[..end])
 }
 
 // Writes the pages that are asked for, and nothing else.
-fn write_pages(asked: Asked, bytes: &[u8])
+fn write_pages(rt: &impl Print, asked: Asked, bytes: &[u8]) -> io::Result<()>
     requires { AnsweringBy (reading_pages asked) bytes.now }
 {
-    io::write_all(STDOUT_FILENO, bytes);
+    rt.write_all(bytes)
 }
 
 // Room for all pages of any sheet. The contract tells the length alone, so that no proof writes the zeros out.
@@ -42,24 +44,24 @@ fn page_room() -> [u8; 259200]
 
 // The pages that the first argument asks for, or all of them where there is none. Nothing can say which bytes an argument has, so the contract says
 // that there are such bytes. The system hands over no argument that is longer than the room for it.
-fn page_asked() -> Asked
+fn page_asked(rt: &impl Env) -> Asked
     ensures { (result ≡ All) ⊎ ((argument : List ℕ) × (result ≡ asked_by argument)) }
 {
-    if os::arg_count() < 2 {
-        return Asked::All;
-    }
     let mut argument = [0u8; 131072];
-    let length = os::arg(1, &mut argument);
-    asked_by(&argument[..length])
+    match rt.arg(1, &mut argument) {
+        Ok(length) => asked_by(&argument[..length]),
+        Err(FillError::TooLong) => asked_by(&argument[..0]),
+        Err(FillError::NotPresent) => Asked::All,
+    }
 }
 
 // Puts what is printed for standard input, whole, at the front of a buffer.
-fn answer_input(asked: Asked, out: &mut [u8]) -> usize
+fn answer_input<R: Read>(reader: &mut R, asked: Asked, out: &mut [u8]) -> usize
     requires { page_room ≤ length out.old }
     ensures { (result ≤ length out.new) × AnsweringBy (reading_pages asked) (take result out.new) }
 {
     let mut list = [0u16; 32768];
-    let scanned = scan_input(&mut list);
+    let scanned = scan_input(reader, &mut list);
     put_scanned(scanned, &list, asked, out)
 }
 

@@ -10,23 +10,24 @@ ghost use Rattle.report.specs.Report.{outcome_printed, reading_printed, answer_r
 ghost use Rattle.input.specs.Answering.{Answering};
 
 use input::scan_input;
-use libc::STDOUT_FILENO;
 use printing::plan_and_put;
 use report::put_refused;
 use sheets::answer::Refusal;
+use std::io;
+use std::io::Read;
 use words::Scanned;
 
-fn main() {
+fn main(rt: HostRuntime) -> io::Result<()> {
     let mut out = answer_room();
-    let end = answer_input(&mut out);
-    write_answer(&out[..end]);
+    let end = answer_input(&mut rt.stdin(), &mut out);
+    write_answer(&rt, &out[..end])
 }
 
 // Writes an answer, and nothing else.
-fn write_answer(bytes: &[u8])
+fn write_answer(rt: &impl Print, bytes: &[u8]) -> io::Result<()>
     requires { Answering bytes.now }
 {
-    io::write_all(STDOUT_FILENO, bytes);
+    rt.write_all(bytes)
 }
 
 // Room for any answer. The contract tells the length alone, so that no proof writes the zeros out.
@@ -37,12 +38,12 @@ fn answer_room() -> [u8; 263682]
 }
 
 // Puts what is printed for standard input, whole, at the front of a buffer.
-fn answer_input(out: &mut [u8]) -> usize
+fn answer_input<R: Read>(reader: &mut R, out: &mut [u8]) -> usize
     requires { answer_room ≤ length out.old }
     ensures { (result ≤ length out.new) × Answering (take result out.new) }
 {
     let mut list = [0u16; 32768];
-    let scanned = scan_input(&mut list);
+    let scanned = scan_input(reader, &mut list);
     put_scanned(scanned, &list, out)
 }
 

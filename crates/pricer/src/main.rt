@@ -3,7 +3,7 @@
 // crates/charge_report/specs/ChargeReport.antt.
 #![tactic(auto)]
 
-ghost use Rattle.std.specs.Prelude.{◌≡◌, List, ℕ, ◌≤◌, length, take};
+ghost use Rattle.std.specs.Prelude.{◌≡◌, List, ℕ, ◌≤◌, length, take, IfSome};
 ghost use Rattle.buffers.specs.Put.{Put};
 ghost use Rattle.sheets.specs.Outcome.{outcome};
 ghost use Rattle.words.specs.Scanner.{scanned_reading, Ended};
@@ -13,47 +13,49 @@ ghost use Rattle.charge_report.specs.ChargeReport.{outcome_charged, reading_char
 
 use charge_printing::plan_and_put_charge;
 use input::scan_input;
-use libc::STDOUT_FILENO;
 use price_arguments::{Price, price_in};
 use report::put_refused;
 use sheets::answer::Refusal;
+use std::env::{Env, FillError};
+use std::io;
+use std::io::Read;
 use words::Scanned;
 
-fn main() {
+fn main(rt: HostRuntime) -> io::Result<()> {
     let mut numbers = [0u32; 130];
-    let count = prices_given(&mut numbers);
+    let count = prices_given(&rt, &mut numbers);
     let mut out = [0u8; 155];
-    let end = answer_input(&numbers[..count], &mut out);
-    write_charge(&numbers[..count], &out[..end]);
+    let end = answer_input(&mut rt.stdin(), &numbers[..count], &mut out);
+    write_charge(&rt, &numbers[..count], &out[..end])
 }
 
 // Writes what an order's sheet costs, and nothing else.
-fn write_charge(numbers: &[u32], bytes: &[u8])
+fn write_charge(rt: &impl Print, numbers: &[u32], bytes: &[u8]) -> io::Result<()>
     requires { AnsweringBy (reading_charged numbers.now) bytes.now }
 {
-    io::write_all(STDOUT_FILENO, bytes);
+    rt.write_all(bytes)
 }
 
 // Puts the numbers of the arguments at the front of an array, or none where they are no price list. Nothing can say which bytes the arguments have, so the contract says
 // that there are such arguments.
-fn prices_given(numbers: &mut [u32]) -> usize
+fn prices_given(rt: &impl Env, numbers: &mut [u32]) -> usize
     requires { length numbers.old ≡ 130 }
     ensures { (result ≤ 130) × ((arguments : List (List ℕ)) × (take result numbers.new ≡ price_list arguments)) }
 {
-    let count = os::arg_count();
-    if 131 < count {
-        return 0;
-    }
     let mut room = argument_room();
     let mut i = 0;
-    while i + 1 < count {
-        match price_at(i + 1, &mut room) {
-            Price::Pence(pence) => numbers[i] = pence,
-            Price::NoNumber => return 0,
+    while i < 130 {
+        match price_at(rt, i + 1, &mut room) {
+            Some(Price::Pence(pence)) => numbers[i] = pence,
+            Some(Price::NoNumber) => return 0,
+            None => return i,
         }
         i += 1;
     }
-    i
+    match price_at(rt, 131, &mut room) {
+        Some(_) => 0,
+        None => i,
+    }
 }
 
 // Room for any argument: the system hands over none that is longer. The contract tells the length alone, so that no proof writes the zeros out.
@@ -63,21 +65,24 @@ fn argument_room() -> [u8; 131072]
     [0; 131072]
 }
 
-// The price that an argument writes.
-fn price_at(i: usize, room: &mut [u8]) -> Price
-    ensures { (argument : List ℕ) × (result ≡ price_in argument) }
+// The price that an argument writes, or none where there is no such argument.
+fn price_at(rt: &impl Env, i: usize, room: &mut [u8]) -> Option<Price>
+    ensures { IfSome result (λ price. (argument : List ℕ) × (price ≡ price_in argument)) }
 {
-    let length = os::arg(i, room);
-    price_in(&room[..length])
+    match rt.arg(i, room) {
+        Ok(length) => Some(price_in(&room[..length])),
+        Err(FillError::TooLong) => Some(price_in(&room[..0])),
+        Err(FillError::NotPresent) => None,
+    }
 }
 
 // Puts what is printed for standard input, whole, at the front of a buffer.
-fn answer_input(numbers: &[u32], out: &mut [u8]) -> usize
+fn answer_input<R: Read>(reader: &mut R, numbers: &[u32], out: &mut [u8]) -> usize
     requires { charge_room ≤ length out.old }
     ensures { (result ≤ length out.new) × AnsweringBy (reading_charged numbers.now) (take result out.new) }
 {
     let mut list = [0u16; 32768];
-    let scanned = scan_input(&mut list);
+    let scanned = scan_input(reader, &mut list);
     put_scanned(scanned, &list, numbers, out)
 }
 

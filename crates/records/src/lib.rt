@@ -22,9 +22,9 @@ ghost use Rattle.record_texts.specs.Text.{Compared, ends_item, after_record, aft
 ghost use Rattle.record_texts.specs.State.{progress, progress_of};
 
 use judging::{judge, lengths_of};
-use libc::STDIN_FILENO;
 use record_counts::{Tally, count, record_counted};
 use record_texts::{Lengths, State};
+use std::io::Read;
 use summary::{print_counts, print_difference};
 
 // Room for an item. The contract tells the length alone, so that no proof writes the zeros out.
@@ -36,7 +36,7 @@ fn item_room() -> [u8; 262144]
 
 // Compares the orders of standard input, and prints how many came to each answer and which of them differ. A proved loop has to end, and nothing
 // says that the input does, so the pieces in which it is read are counted down from a number that no input reaches.
-pub fn compare_all() -> Tally
+pub fn compare_all<R: Read>(rt: &impl Print, reader: &mut R) -> Tally
     ensures compared { Compared result }
     ensures differing_le_records { result.differing ≤ result.records }
 {
@@ -57,21 +57,32 @@ pub fn compare_all() -> Tally
     };
     let mut pieces_left = u64::MAX;
     while pieces_left > 0 {
-        let got = libc::read(STDIN_FILENO, &mut piece);
-        let n = io::count(got, &piece);
+        let n = match reader.read(&mut piece) {
+            Ok(n) => n,
+            Err(_) => 0,
+        };
         if n == 0 {
             break;
         }
-        state = compare_piece(&piece[..n], state, &mut item, &mut counts);
+        state = compare_piece(rt, &piece[..n], state, &mut item, &mut counts);
         pieces_left -= 1;
     }
     let tally = state.tally;
-    print_counts(&counts, tally);
+    match print_counts(rt, &counts, tally) {
+        Ok(()) => {}
+        Err(_) => {}
+    }
     tally
 }
 
 // After a piece of the text more.
-fn compare_piece(piece: &[u8], before: State, item: &mut [u8], counts: &mut [usize]) -> State
+fn compare_piece(
+    rt: &impl Print,
+    piece: &[u8],
+    before: State,
+    item: &mut [u8],
+    counts: &mut [usize],
+) -> State
     requires { before.held ≤ length item.old }
     ensures held_in_bounds { result.held ≤ length item.old }
     ensures counts_after { progress_of result item.new counts.new ≡ after_text (length item.old) (progress_of before item.old counts.old) piece.now }
@@ -79,14 +90,20 @@ fn compare_piece(piece: &[u8], before: State, item: &mut [u8], counts: &mut [usi
     let mut state = before;
     let mut i = 0;
     while i < piece.len() {
-        state = compare_byte(piece[i], state, item, counts);
+        state = compare_byte(rt, piece[i], state, item, counts);
         i += 1;
     }
     state
 }
 
 // After one byte more. Of an item that is too long for its room the last bytes are left out; a record then differs.
-fn compare_byte(byte: u8, before: State, item: &mut [u8], counts: &mut [usize]) -> State
+fn compare_byte(
+    rt: &impl Print,
+    byte: u8,
+    before: State,
+    item: &mut [u8],
+    counts: &mut [usize],
+) -> State
     requires { before.held ≤ length item.old }
     ensures held_in_bounds { result.held ≤ length item.old }
     ensures counts_after { progress_of result item.new counts.new ≡ after_byte (length item.old) (progress_of before item.old counts.old) byte }
@@ -94,7 +111,7 @@ fn compare_byte(byte: u8, before: State, item: &mut [u8], counts: &mut [usize]) 
     let held = before.held;
     let room = item.len();
     if ends_item(&item[..held], byte) {
-        return compare_item(&item[..held], room, before, counts);
+        return compare_item(rt, &item[..held], room, before, counts);
     }
     if held == room {
         return before;
@@ -124,7 +141,13 @@ fn ends_item(item: &[u8], byte: u8) -> bool
 }
 
 // After an item with these bytes; none is held then.
-fn compare_item(item: &[u8], room: usize, before: State, counts: &mut [usize]) -> State
+fn compare_item(
+    rt: &impl Print,
+    item: &[u8],
+    room: usize,
+    before: State,
+    counts: &mut [usize],
+) -> State
     ensures held_value { result.held ≡ 0 }
     ensures counts_after { progress result.tally result.lengths [] counts.new ≡ after_item room (progress before.tally before.lengths item.now counts.old) }
 {
@@ -135,7 +158,7 @@ fn compare_item(item: &[u8], room: usize, before: State, counts: &mut [usize]) -
         if first == b'@' {
             lengths = lengths_of(&item[1..]);
         } else if first != b'#' {
-            tally = compare_record(item, room, tally, lengths, counts);
+            tally = compare_record(rt, item, room, tally, lengths, counts);
         }
     }
     State {
@@ -147,6 +170,7 @@ fn compare_item(item: &[u8], room: usize, before: State, counts: &mut [usize]) -
 
 // After a record with these bytes. One that fills its room may lack bytes, and counts as differing.
 fn compare_record(
+    rt: &impl Print,
     bytes: &[u8],
     room: usize,
     before: Tally,
@@ -160,7 +184,10 @@ fn compare_record(
     let holds = bytes.len() < room && found.same;
     let tally = record_counted(holds, before);
     if !holds {
-        print_difference(tally.records);
+        match print_difference(rt, tally.records) {
+            Ok(()) => {}
+            Err(_) => {}
+        }
     }
     tally
 }

@@ -10,42 +10,46 @@ ghost use Rattle.std.specs.Prelude.{◌≤◌, ◌<◌, length};
 
 use decimals::put_signed;
 use input::scan_input;
-use libc::STDOUT_FILENO;
+use std::io;
 use stored_calls::least;
 use words::Scanned;
 use written_check::{check_numbers, check_written};
 use written_table::TableCheck;
 
-fn main() {
+fn main(rt: HostRuntime) -> io::Result<()> {
     let mut list = [0u16; 32768];
-    match scan_input(&mut list) {
-        Scanned::Numbers { count } => answer_first(&list, count),
-        Scanned::Refused { place: _ } => {}
+    match scan_input(&mut rt.stdin(), &mut list) {
+        Scanned::Numbers { count } => answer_first(&rt, &list, count),
+        Scanned::Refused { place: _ } => Ok(()),
     }
 }
 
 // Answers the calls that so many numbers at the front of a list hold.
-fn answer_first(list: &[u16], count: usize) {
+fn answer_first(rt: &impl Print, list: &[u16], count: usize) -> io::Result<()> {
     let end = least(count, list.len());
-    answer_calls(&list[..end]);
+    answer_calls(rt, &list[..end])
 }
 
 // Answers the calls that a list holds, one after the other.
-fn answer_calls(list: &[u16]) {
+fn answer_calls(rt: &impl Print, list: &[u16]) -> io::Result<()> {
     let mut at = 0;
     while at < list.len() {
-        at = answer_call(list, at);
+        at = answer_call(rt, list, at);
     }
+    Ok(())
 }
 
 // Answers the call at a place of a list, and returns the place after it. A call that runs past the end of the list ends there.
-fn answer_call(list: &[u16], at: usize) -> usize
+fn answer_call(rt: &impl Print, list: &[u16], at: usize) -> usize
     requires { at < length list.now }
     ensures { (at < result) × (result ≤ length list.now) }
 {
     let start = at + 1;
     let end = start + least(wide(list[at]), list.len() - start);
-    write_check(check_written(&list[start..end]));
+    match write_check(rt, check_written(&list[start..end])) {
+        Ok(()) => {}
+        Err(_) => {}
+    }
     end
 }
 
@@ -55,29 +59,27 @@ fn wide(number: u16) -> usize {
 }
 
 // Writes the line of an answer.
-fn write_check(check: TableCheck) {
+fn write_check(rt: &impl Print, check: TableCheck) -> io::Result<()> {
     let passing = check.passing;
     let numbers = check_numbers(passing);
     let mut i = 0;
     while i < 7 {
-        io::print_decimal(STDOUT_FILENO, numbers[i] as u64);
-        io::write_all(STDOUT_FILENO, b" ");
+        print!(rt; "{} ", numbers[i])?;
         i += 1;
     }
-    write_gap(check.gap);
-    write_pairs(check.pairs);
+    write_gap(rt, check.gap)?;
+    write_pairs(rt, check.pairs)
 }
 
 // Writes the gap, and a blank after it.
-fn write_gap(gap: i64) {
+fn write_gap(rt: &impl Print, gap: i64) -> io::Result<()> {
     let mut digits = [0u8; 20];
     let end = put_signed(&mut digits, 0, gap);
-    io::write_all(STDOUT_FILENO, &digits[..end]);
-    io::write_all(STDOUT_FILENO, b" ");
+    rt.write_all(&digits[..end])?;
+    rt.write_all(b" ")
 }
 
 // Writes the pairs of columns, and ends the line.
-fn write_pairs(pairs: usize) {
-    io::print_decimal(STDOUT_FILENO, pairs as u64);
-    io::write_all(STDOUT_FILENO, b"\n");
+fn write_pairs(rt: &impl Print, pairs: usize) -> io::Result<()> {
+    println!(rt; "{pairs}")
 }

@@ -1,13 +1,10 @@
 -- What the parts of the code find is what the definitions give.
 -- Assumes nothing.
 use mathlib.Core.Path.{◌≡◌, refl, sym, ◌∙◌, ap, subst}
-use mathlib.Core.Logic.{◌⊎◌, ⊎_elim}
 use mathlib.Core.Bool.{Bool, true, false}
 use mathlib.Core.List.{List}
 use Prim.Native.Nat.{ℕ, ◌+◌, ◌≤◌, ◌<◌}
 use native.Mathlib.Nat.{le_of_eq}
-use native.Mathlib.Omega.{arith}
-use denote.Enum.Declared.{tag_of}
 use borrow.Author.Tests.{lt-ltb, le-ltb, eq-eqb, ne_eqb}
 use lib.Dec.{ltb}
 use lib.ListN.{length, get_or, replicate, length-replicate}
@@ -23,7 +20,6 @@ use Rattle.order.specs.declared.Located.{Located}
 use Rattle.order.specs.declared.Located.TheVariants.{Table as TableAt, Matrix as MatrixAt, Generator as GeneratorAt, Missing}
 use Rattle.order.specs.declared.Spot.{Spot}
 use Rattle.order.specs.declared.Spot.TheVariants.{Found, Refused as Refused_spot}
-use Rattle.order.specs.contracts.Located.{the_type}
 use Rattle.order.proofs.Answers.{spot_value, spot_refused}
 use Rattle.order.proofs.InRange.{ingredient_iff}
 use Rattle.counting.specs.Table.{table_of}
@@ -150,8 +146,8 @@ module _ {list : List ℕ} {what : Located} (read : ReadAs list what) where
         StandsAt Missing = Unit {0}
 
     -- It is nothing but a table, as a `match` knows it.
-    pub no_other : (tag_of the_type what ≡ 1) ⊎ ((tag_of the_type what ≡ 2) ⊎ (tag_of the_type what ≡ 3)) → ⊥
-    no_other e = written λ rows levels entries same w is. let none : tag_of the_type what ≡ 0 = ap (tag_of the_type) same in ⊎_elim (λ h. omega arith) (λ h. ⊎_elim (λ k. omega arith) (λ k. omega arith) h) e
+    pub no_other : ((rows columns levels_at entries_at : ℕ) → what ≡ TableAt rows columns levels_at entries_at → ⊥) → ⊥
+    no_other other = written λ rows levels entries same w is. other _ _ _ _ same
 
     pub verdict_answer : {rows columns levels_at entries_at : ℕ} {verdict : TableVerdict} {r : TableCheck} → what ≡ TableAt rows columns levels_at entries_at
         → verdict ≡ table_verdict (table_in list (Own rows columns levels_at entries_at)) → r ≡ verdict_check verdict → r ≡ table_check list

@@ -12,4 +12,4 @@ count_changes-requires-clause-by_index c = c.requires.by_index
 pub returns : goal.returns
 returns c =
     c.price_counts.ensures
-    ∙ priced_same c.args.prices.now (λ k h. rw (← c.requires.counts_len) (c.count-changes.ensures k (rw c.requires.counts_len h)))
+    ∙ priced_same c.args.prices.now (λ k h. rw (← c.requires.counts_len) (c.count_changes.ensures k (rw c.requires.counts_len h)))

@@ -14,9 +14,9 @@ the_number-requires c =
 pub returns-in-Numbers : goal.returns-in-Numbers
 returns-in-Numbers c =
     let scanned = c.scan in
-    c.the_number.ensures ∙ asked_numbers _ (reads_numbers scanned.new.list.0 _ scanned.ensures.list_after c.in-Numbers.is)
+    c.the_number.ensures ∙ asked_numbers _ (reads_numbers scanned.new.list _ scanned.ensures.list_after c.in-Numbers.is)
 
 pub returns-in-Refused : goal.returns-in-Refused
 returns-in-Refused c =
     let scanned = c.scan in
-    asked_refused _ (reads_refused scanned.new.list.0 _ scanned.ensures.list_after c.in-Refused.is)
+    asked_refused _ (reads_refused scanned.new.list _ scanned.ensures.list_after c.in-Refused.is)
