@@ -14,14 +14,11 @@ pub step-requires-clause-prepared : goal.step-requires-clause-prepared
 step-requires-clause-prepared c = c.requires.prepared
 
 pub returns-in-Step-clause-left : goal.returns-in-Step-clause-left
-returns-in-Step-clause-left c = (let looked = c.step_at.ensures in
-    let found = c.in-Step.is in
-    rw (proceed_found c.requires.prepared.readable _ c.requires.le_number _ _ _ (sym looked ∙ found)) c.step.ensures).0
+returns-in-Step-clause-left c =
+    rw (proceed_found c.requires.prepared.readable _ c.requires.le_number _ _ _ (sym c.step_at.ensures ∙ c.in-Step.is)) c.step.ensures.left
 
 pub returns-in-Step-clause-zeros : goal.returns-in-Step-clause-zeros
-returns-in-Step-clause-zeros c = (let looked = c.step_at.ensures in
-    let found = c.in-Step.is in
-    rw (proceed_found c.requires.prepared.readable _ c.requires.le_number _ _ _ (sym looked ∙ found)) c.step.ensures).1
+returns-in-Step-clause-zeros c = c.step.ensures.zeros
 
 pub returns-in-Missing-clause-left : goal.returns-in-Missing-clause-left
 unfolding Left

@@ -1,0 +1,6 @@
+-- `charge_examples::answer_calls` is safe, and ends: each call stands further on than the one before.
+use Prim.Native.Nat.{◌-◌}
+use Rattle.charge_examples.proofs.answer_calls.Given as goal
+
+abbrev pub decreases-loop-at : goal.decreases-loop-at
+decreases-loop-at g l = 32768 - l.at
