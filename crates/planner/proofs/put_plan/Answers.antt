@@ -1,0 +1,7 @@
+-- `planner::put_plan` meets its contract: what is put is what is printed of the outcome, in buffers that are long enough.
+use mathlib.Core.Path.{refl}
+use Rattle.promise.proofs.Promises.{least_buffers}
+use Rattle.planner.proofs.put_plan.Goals as goal
+
+pub returns : goal.returns
+returns c = rw (least_buffers _ refl refl refl) at c.plan_and_put-printed.ensures.put

@@ -1,0 +1,7 @@
+-- `pricer::put_ordered` meets its contract: what is put is what is printed of the outcome, in buffers that are long enough.
+use mathlib.Core.Path.{refl}
+use Rattle.promise.proofs.Promises.{least_buffers}
+use Rattle.pricer.proofs.put_ordered.Goals as goal
+
+pub returns : goal.returns
+returns c = rw (least_buffers _ refl refl refl) at c.plan_and_put_charge.ensures
