@@ -1,5 +1,5 @@
 -- `judge_in` meets its contract: what is put is what the outcome prints, and the bytes that are looked at are zero by the promise of `plan`.
-use Rattle.buffers.proofs.Puts.{put_part, put_front}
+use Rattle.buffers.proofs.Puts.{put_front}
 use Rattle.printing.proofs.Printing.{promise_printable}
 use Rattle.record_texts.proofs.Judging.{promise_judged}
 use Rattle.judging.proofs.judge_in.Goals as goal
@@ -8,14 +8,10 @@ pub rest_is_zero-requires : goal.rest_is_zero-requires
 rest_is_zero-requires c =
     promise_printable c.plan_and_put-done.ensures.promise
 
-pub slice_bounds-is_stored-end : goal.slice_bounds-is_stored-end
-slice_bounds-is_stored-end c =
-    put_part c.plan_and_put-done.ensures.put
-
 pub returns : goal.returns
 returns c =
     let planned = c.plan_and_put-done.ensures in
-    promise_judged planned.promise _ c.number_of_lem.ensures c.zero_from.ensures
+    promise_judged planned.promise _ c.number_of.ensures c.zero_from.ensures
     c.rest_is_zero.ensures
     (put_front planned.put)
     c.is_stored.ensures
