@@ -5,8 +5,8 @@ use Prim.Native.Nat.{ℕ, suc, ◌+◌, ◌≤◌, ◌<◌}
 use native.Mathlib.Nat.{add-zero}
 use native.Mathlib.Numerals.{add-one}
 use native.Mathlib.Omega.{arith}
-use lib.ListN.{length, get_or, take, drop, set, replicate, replicate-append-replicate, length-append, length-take, length-drop, take-append-drop, get_or-append}
-use lib.Seq.{get_or-take, take_all, length-take-le, take-suc, take_at, drop-append-add, drop-drop, set_split, append_snoc}
+use lib.ListN.{length, get_or, take, drop, set, length-append, length-take, length-drop, take-append-drop, get_or-append}
+use lib.Seq.{get_or-take, length-take-le, take-suc, take_at, drop-append-add, drop-drop, set_split, append_snoc}
 use Rattle.buffers.specs.Put.{Put}
 
 pub put_none : (before : List ℕ) (at : ℕ) → at ≤ length before → Put before at [] before at
@@ -72,13 +72,3 @@ put_part {j = j} p = sym (length-take-le j _ (omega (arith, p.fits, put_length p
 
 pub put_front : {a xs b : List ℕ} {j : ℕ} → Put a 0 xs b j → take j b ≡ xs
 put_front p = kept_front p
-
--- One more zero.
-pub put_zero : {a b c : List ℕ} {i j k : ℕ} (n : ℕ) → Put a i (replicate n 0) b j → Put b j (0 ∷ []) c k → Put a i (replicate (n + 1) 0) c k
-put_zero n p q = rw (replicate-append-replicate {A = ℕ} n 1 0) at (put_join p q)
-
--- Zeros to the end of the buffer are all of it.
-pub put_whole : {a b : List ℕ} {n : ℕ} → Put a 0 (replicate n 0) b n → length b ≤ n → b ≡ replicate (length a) 0
-put_whole {a} {b} {n} p all =
-    let many : n ≡ length a = omega (arith, p.fits, put_length p) in
-    sym (take_all n b all) ∙ put_front p ∙ ap (λ (k : ℕ). replicate k 0) many

@@ -19,13 +19,9 @@ pub fn put_bytes(buf: &mut [u8], at: usize, bytes: &[u8]) -> usize
     requires { at + length bytes.now ≤ length buf.old }
     ensures { Put buf.old at bytes.now buf.new result }
 {
-    let mut place = at;
-    let mut i = 0;
-    while i < bytes.len() {
-        place = put_byte(buf, place, bytes[i]);
-        i += 1;
-    }
-    place
+    let end = at + bytes.len();
+    buf[at..end].copy_from_slice(bytes);
+    end
 }
 
 // Some numbers that fit in a byte each.
@@ -35,10 +31,8 @@ pub fn put_numbers(buf: &mut [u8], at: usize, numbers: &[u16]) -> usize
     ensures { Put buf.old at numbers.now buf.new result }
 {
     let mut place = at;
-    let mut i = 0;
-    while i < numbers.len() {
-        place = put_byte(buf, place, numbers[i] as u8);
-        i += 1;
+    for number in numbers {
+        place = put_byte(buf, place, *number as u8);
     }
     place
 }
@@ -47,9 +41,5 @@ pub fn put_numbers(buf: &mut [u8], at: usize, numbers: &[u16]) -> usize
 pub fn clear(bytes: &mut [u8])
     ensures { bytes.new ≡ replicate (length bytes.old) 0 }
 {
-    let mut i = 0;
-    while i < bytes.len() {
-        bytes[i] = 0;
-        i += 1;
-    }
+    bytes.fill(0);
 }

@@ -5,9 +5,10 @@ ghost use Rattle.std.specs.Prelude.{◌≡◌};
 ghost use Rattle.words.specs.Words.{is_gap};
 ghost use Rattle.words.specs.Scanner.{grown, begun, stored, resumed, stepped};
 
-use words::{Scan, Scanned};
+use words::{BadWord, Scan};
 
 // Spaces, tabs and line feeds part words.
+#[tactic(auto, unfolding(words::specs::Words::is_gap))]
 fn is_gap(byte: u8) -> bool
     ensures { result ≡ is_gap byte }
 {
@@ -15,6 +16,7 @@ fn is_gap(byte: u8) -> bool
 }
 
 // One more byte of the word after count numbers, whose digits so far write value.
+#[tactic(auto, unfolding(words::specs::Words::is_digit, words::specs::Scanner::grown))]
 fn grow(count: usize, value: u16, byte: u8) -> Scan
     ensures { result ≡ grown count value byte }
 {
@@ -36,6 +38,7 @@ fn grow(count: usize, value: u16, byte: u8) -> Scan
 }
 
 // The first byte of the word after count numbers. The word after 32,768 numbers is refused, whatever it is.
+#[tactic(auto, unfolding(words::specs::Scanner::begun))]
 fn begin(count: usize, byte: u8) -> Scan
     ensures { result ≡ begun count byte }
 {
@@ -46,28 +49,30 @@ fn begin(count: usize, byte: u8) -> Scan
 }
 
 // The end of the word after count numbers, which writes value.
-pub fn store(count: usize, value: u16, list: &mut [u16; 32768]) -> Scanned
+#[tactic(auto, unfolding(words::specs::Scanner::stored))]
+pub fn store(count: usize, value: u16, list: &mut [u16; 32768]) -> Result<usize, BadWord>
     ensures { (result, list.new) ≡ stored count value list.old }
 {
     if count < 32768 {
         list[count] = value;
-        Scanned::Numbers { count: count + 1 }
+        Ok(count + 1)
     } else {
-        Scanned::Refused { place: count }
+        Err(BadWord { place: count })
     }
 }
 
 // The state after a word that has ended.
-fn resume(word: Scanned) -> Scan
+fn resume(word: Result<usize, BadWord>) -> Scan
     ensures { result ≡ resumed word }
 {
     match word {
-        Scanned::Numbers { count } => Scan::Between { count },
-        Scanned::Refused { place } => Scan::Failed { place },
+        Ok(count) => Scan::Between { count },
+        Err(BadWord { place }) => Scan::Failed { place },
     }
 }
 
 // After one byte more. The number of a word that it ends goes into the list.
+#[tactic(auto, unfolding(words::specs::Scanner::stepped))]
 pub fn step(scan: Scan, byte: u8, list: &mut [u16; 32768]) -> Scan
     ensures { (result, list.new) ≡ stepped (scan, list.old) byte }
 {

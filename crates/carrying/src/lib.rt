@@ -27,8 +27,7 @@ fn carry_out(list: &[u16], table: &mut [u8], levels: &mut [u8], scratch: &mut [u
         columns: 0,
         spare: 0,
     };
-    let mut number = 1;
-    while number <= last {
+    for number in 1..=last {
         match proceed(list, number, size, table, levels, scratch) {
             Answer::Filled {
                 runs,
@@ -43,7 +42,6 @@ fn carry_out(list: &[u16], table: &mut [u8], levels: &mut [u8], scratch: &mut [u
             }
             Answer::Refused(why) => return Answer::Refused(why),
         }
-        number += 1;
     }
     Answer::Filled {
         runs: size.runs,

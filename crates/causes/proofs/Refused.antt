@@ -10,6 +10,7 @@ use native.Mathlib.Omega.{arith}
 use lib.Dec.{T}
 use lib.ListN.{length, length-append}
 use lib.Seq.{append_snoc}
+use Rattle.std.specs.Prelude.{Result, Ok, Err}
 use Rattle.finite.specs.First.{◌or_else◌}
 use Rattle.counting.specs.Table.{Table, table_of, columns}
 use Rattle.counting.specs.Matrix.{matrix_of}
@@ -19,21 +20,16 @@ use Rattle.counting.specs.GeneratorVerdict.{generator_verdict}
 use Rattle.counting.specs.declared.verdict.DependenceFault.{DependenceFault}
 use Rattle.counting.specs.declared.verdict.DifferenceFault.{DifferenceFault}
 use Rattle.counting.specs.declared.verdict.TableFault.TheVariants.{Column, Pair}
-use Rattle.counting.specs.declared.verdict.TableFinding.{TableFinding}
-use Rattle.counting.specs.declared.verdict.TableFinding.TheVariants.{Passes, Fails}
-use Rattle.counting.specs.declared.verdict.MatrixFinding.{MatrixFinding}
-use Rattle.counting.specs.declared.verdict.MatrixFinding.TheVariants as MatrixFinding
-use Rattle.counting.specs.declared.verdict.GeneratorFinding.{GeneratorFinding}
-use Rattle.counting.specs.declared.verdict.GeneratorFinding.TheVariants as GeneratorFinding
 use Rattle.counting.proofs.TableVerdicts.{table_fails}
 use Rattle.counting.proofs.MatrixVerdicts.{matrix_fails}
 use Rattle.counting.proofs.GeneratorVerdicts.{generator_fails}
+use Rattle.counting.specs.declared.verdict.TableFault.{TableFault}
 use Rattle.order.specs.Order.{Ingredient, table, matrix, generator, Step, Order, All, IngredientLimits}
 use Rattle.order.specs.Reader.{Parsed, value, refused as unread}
 use Rattle.order.specs.Grammar.{read_order, Reads}
 use Rattle.order.specs.Range.{range_of}
-use Rattle.order.specs.declared.Entries.{Entries}
-use Rattle.order.specs.declared.Entries.TheVariants.{InRange as Within, OutOfRange, Unread}
+use Rattle.order.specs.declared.RangeFault.{RangeFault}
+use Rattle.order.specs.declared.RangeFault.TheVariants.{OutOfRange, Unread}
 use Rattle.order.proofs.OrderLaw.{reads_iff}
 use Rattle.order.proofs.InRange.{range_iff}
 use Rattle.order_causes.proofs.Unreadable.{unreadable}
@@ -68,11 +64,11 @@ data Fault (o : Order) : Refusal → Type 0 where
   dependent : (i : ℕ) (f : DependenceFault) → GeneratorFails o i f → Fault o (Dependent i f.first f.second f.coefficients)
 
 module _ (o : Order) (i : ℕ) {why : Refusal} where
-  table_fault : (rows : ℕ) (levels entries : List ℕ) → ReachesIngredient o i (table rows levels entries) → (f : TableFinding)
+  table_fault : (rows : ℕ) (levels entries : List ℕ) → ReachesIngredient o i (table rows levels entries) → (f : Result (Unit {0}) TableFault)
       → (table_verdict (table_of entries levels rows)).finding ≡ f → table_refusal i f ≡ some why → Fault o why
   unfolding table_refusal
-  table_fault rows levels entries reached Passes found e = absurd (none-ne-some why e)
-  table_fault rows levels entries reached (Fails (Column c x times)) found e =
+  table_fault rows levels entries reached (Ok tt) found e = absurd (none-ne-some why e)
+  table_fault rows levels entries reached (Err (Column c x times)) found e =
       subst (Fault o) (some-injective _ why e)
       (uneven_level i c x times
       (record {
@@ -83,7 +79,7 @@ module _ (o : Order) (i : ℕ) {why : Refusal} where
         gap = _;
         first_fault = table_fails _ _ found;
       }))
-  table_fault rows levels entries reached (Fails (Pair c d x y times)) found e =
+  table_fault rows levels entries reached (Err (Pair c d x y times)) found e =
       subst (Fault o) (some-injective _ why e)
       (uneven_pair i c d x y times
       (record {
@@ -95,20 +91,20 @@ module _ (o : Order) (i : ℕ) {why : Refusal} where
         first_fault = table_fails _ _ found;
       }))
 
-  matrix_fault : (rows columns p : ℕ) (entries : List ℕ) → ReachesIngredient o i (matrix rows columns p entries) → (f : MatrixFinding)
+  matrix_fault : (rows columns p : ℕ) (entries : List ℕ) → ReachesIngredient o i (matrix rows columns p entries) → (f : Result (Unit {0}) DifferenceFault)
       → matrix_verdict (matrix_of entries rows columns p) ≡ f → matrix_refusal i f ≡ some why → Fault o why
   unfolding matrix_refusal
-  matrix_fault rows columns p entries reached MatrixFinding.Passes found e = absurd (none-ne-some why e)
-  matrix_fault rows columns p entries reached (MatrixFinding.Fails fault) found e =
+  matrix_fault rows columns p entries reached (Ok tt) found e = absurd (none-ne-some why e)
+  matrix_fault rows columns p entries reached (Err fault) found e =
       subst (Fault o) (some-injective _ why e)
       (uneven_difference i fault
       (record { rows = rows; columns = columns; modulus = p; entries = entries; reached = reached; first_fault = matrix_fails _ fault found }))
 
-  generator_fault : (t s : ℕ) (widths entries : List ℕ) → 0 < s → ReachesIngredient o i (generator t s widths entries) → (f : GeneratorFinding)
+  generator_fault : (t s : ℕ) (widths entries : List ℕ) → 0 < s → ReachesIngredient o i (generator t s widths entries) → (f : Result (Unit {0}) DependenceFault)
       → generator_verdict (generator_of entries t s widths) ≡ f → generator_refusal i f ≡ some why → Fault o why
   unfolding generator_refusal generator_of
-  generator_fault t s widths entries positive reached GeneratorFinding.Passes found e = absurd (none-ne-some why e)
-  generator_fault t s widths entries positive reached (GeneratorFinding.Fails fault) found e =
+  generator_fault t s widths entries positive reached (Ok tt) found e = absurd (none-ne-some why e)
+  generator_fault t s widths entries positive reached (Err fault) found e =
       subst (Fault o) (some-injective _ why e)
       (dependent i fault
       (record { coordinates = t; size = s; widths = widths; entries = entries; reached = reached; first_fault = generator_fails _ positive fault found }))
@@ -367,13 +363,13 @@ module _ (list : List ℕ) (lengths : Lengths) (suffices : Suffices lengths) whe
           fault_cause o ranged (ingredients_fault o [] o.ingredients 1 refl refl tt ranged.read.limits.each_ingredient (is ∙ ap some (same_refusal e)))
 
   -- question 3, and those after it
-  ranged_cause : (o : Order) {why : Refusal} → ReachesRange list lengths o → Reads list o → (x : Entries) → range_of (read_order list) ≡ x
+  ranged_cause : (o : Order) {why : Refusal} → ReachesRange list lengths o → Reads list o → (x : Result (Unit {0}) RangeFault) → range_of (read_order list) ≡ x
       → unless (range_refusal x) (unless (ingredients_refusal 1 o.ingredients) (all_steps o o.steps)) ≡ refused why → Cause list lengths why
   unfolding unless range_refusal Cause
-  ranged_cause o writes reads Within is e = asked_cause o (record { read = writes; in_range = (range_iff list o reads).0 is }) e
-  ranged_cause o writes reads (OutOfRange place) is e =
+  ranged_cause o writes reads (Ok tt) is e = asked_cause o (record { read = writes; in_range = (range_iff list o reads).0 is }) e
+  ranged_cause o writes reads (Err (OutOfRange place)) is e =
       subst (Cause list lengths) (same_refusal e) (o, writes, out_of_range list o reads place is)
-  ranged_cause o writes reads Unread is e = absurd (asked list o reads is)
+  ranged_cause o writes reads (Err Unread) is e = absurd (asked list o reads is)
 
   -- question 2, and those after it
   read_cause : {why : Refusal} (x : Parsed Order) → read_order list ≡ x → read_outcome x ≡ refused why → Cause list lengths why

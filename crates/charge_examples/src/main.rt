@@ -14,24 +14,24 @@ use charges::Quote;
 use charging::charge_sheet;
 use input::scan_input;
 use std::io;
-use stored_calls::{least, long_number_at, number_at};
+use stored_calls::{long_number_at, number_at};
 use stored_sheets::{StoredSheet, repeat, sheet_at};
-use words::Scanned;
 
 fn main(rt: HostRuntime) -> io::Result<()> {
     let mut list = [0u16; 32768];
     match scan_input(&mut rt.stdin(), &mut list) {
-        Scanned::Numbers { count } => answer_calls(&rt, &list, count),
-        Scanned::Refused { place: _ } => Ok(()),
+        Ok(count) => answer_calls(&rt, &list, count),
+        Err(_) => Ok(()),
     }
 }
 
-// Answers the calls that so many numbers at the front of a list hold, one after the other.
+// Answers the calls that so many numbers at the front of a list hold, one after the other. It is a `while`, since each
+// call says where the next one stands.
 fn answer_calls(rt: &impl Print, list: &[u16], count: usize) -> io::Result<()>
     requires { length list.now ≡ 32768 }
 {
     let mut at = 0;
-    while at < least(count, 32768) {
+    while at < count.min(32768) {
         at = answer_call(rt, list, at);
     }
     Ok(())
@@ -42,7 +42,7 @@ fn answer_call(rt: &impl Print, list: &[u16], at: usize) -> usize
     requires { at < 32768 }
     ensures { at < result }
 {
-    let priced = least(number_at(list, at + 6), 255);
+    let priced = number_at(list, at + 6).min(255);
     let sheet = sheet_at(list, at + 7 + 2 * priced);
     match make_call(rt, list, at, priced, sheet) {
         Ok(()) => {}
@@ -92,10 +92,8 @@ fn table_room() -> [u8; 65536]
 fn put_prices(list: &[u16], start: usize, prices: &mut [u32])
     requires { (start ≤ 65536) × (length prices.old ≤ 65536) }
 {
-    let mut i = 0;
-    while i < prices.len() {
-        prices[i] = long_number_at(list, start + 2 * i) as u32;
-        i += 1;
+    for (i, price) in prices.iter_mut().enumerate() {
+        *price = long_number_at(list, start + 2 * i) as u32;
     }
 }
 

@@ -2,14 +2,15 @@
 -- Assumes nothing.
 use mathlib.Core.Path.{◌≡◌, refl, sym, ◌∙◌, ap, ap₂}
 use mathlib.Core.Logic.{by_cases}
-use mathlib.Core.Bool.{Bool, true, false}
+use mathlib.Core.Bool.{Bool, true, false, ◌&&◌}
 use mathlib.Core.List.{List}
 use Prim.Native.Nat.{ℕ, zero, suc, ◌+◌, ◌*◌, ◌-◌, ◌≤◌, ◌<◌}
 use native.Mathlib.Decide.{dec_lt}
-use native.Mathlib.Nat.{mul_comm}
+use native.Mathlib.Nat.{mul_comm, mul-le-mul}
 use native.Mathlib.Numerals.{add-one}
 use native.Mathlib.Omega.{arith}
-use mir.Syntax.{w16}
+use lib.Dec.{leb, eqb}
+use mir.Syntax.{w16, w32}
 use mir.Val.{Fits, bool_byte}
 use lib.ListN.{length, get_or, set, take, replicate, length-set}
 use lib.Seq.{get_or-set_same, get_or-set_other}
@@ -21,7 +22,8 @@ use Rattle.counting.specs.Table.{table_of}
 use Rattle.given_sheet.specs.Given.{WellFormed, given_sheet}
 use Rattle.given_sheet.proofs.Sheet.{given_columns, given_level}
 use Rattle.charges.specs.Charge.{changes, change_pence, price_sum, hundredfold, rounded, charge}
-use Rattle.charges.proofs.ChargePromises.{sheet_charged}
+use Rattle.charges.specs.ChargePromise.{ChargePromise}
+use Rattle.charges.proofs.ChargePromises.{ChargeSettled, sheet_charged, served, charge_promised}
 use Rattle.charging.specs.Changes.{differs, change_count, priced_counts}
 
 -- ---- one run, compared with the one before it
@@ -100,6 +102,10 @@ next_within r m e h room = omega (arith, e, run_more r m, run_end (r + 1) m h ro
 
 -- ---- the prices
 
+-- a number of 16 bits times a price
+pub column_most : {often price : ℕ} → Fits w16 often → Fits w32 price → often * price ≤ 65535 * 4294967295
+column_most often price = mul-le-mul {n₂ = 65535} {m₂ = 4294967295} (omega (arith, often.fits)) (omega (arith, price.fits))
+
 module _ (counts prices : List ℕ) where
   -- what the first c columns cost
   abbrev pub priced_first : ℕ → ℕ
@@ -158,3 +164,18 @@ module _ {N m : ℕ} {levels table : List ℕ} (sheet : WellFormed N m levels ta
       let holds = sheet_charged sheet run_price prices low each discount in
       rw (is, sum_same run_price prices many)
       record { sum_fits = omega (arith, holds.at_most); fold_fits = holds.no_overflow; charge_is = refl }
+
+  -- the same from what the code knows
+  pub price_list : (run_price : ℕ) (prices : List ℕ) (discount : ℕ) → Fits w32 run_price → ((c : ℕ) → Fits w32 (get_or prices c 0))
+      → (leb discount 100 && eqb (length prices) m) ≡ true
+      → {changed : ℕ} → changed ≡ priced_counts (change_count table (length prices) N) prices → Summed run_price prices discount (N * run_price + changed)
+  price_list run_price prices discount low each serves =
+      summed run_price prices discount (omega (arith, low.fits)) (λ c. omega (arith, (each c).fits)) (served _ _ _ serves).1
+
+-- the promise of numbers of 32 bits
+pub promised : (N m : ℕ) (levels table : List ℕ) (run_price : ℕ) (prices : List ℕ) (discount : ℕ) {answer pence : ℕ}
+    → Fits w32 run_price → ((c : ℕ) → Fits w32 (get_or prices c 0))
+    → ChargeSettled N m levels table run_price prices discount answer pence
+    → ChargePromise N m levels table run_price prices discount answer pence
+promised N m levels table run_price prices discount low each settled =
+    charge_promised N m levels table run_price prices discount (omega (arith, low.fits)) (λ c. omega (arith, (each c).fits)) settled

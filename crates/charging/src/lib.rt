@@ -78,12 +78,8 @@ fn count_changes(table: &[u8], runs: usize, counts: &mut [u16])
     requires by_index { (c : ℕ) → get_or counts.old c 0 ≡ 0 }
     ensures { (c : ℕ) → c < length counts.old → get_or counts.new c 0 ≡ change_count table.now (length counts.old) runs c }
 {
-    let mut run = 0;
-    let mut start = 0;
-    while run + 1 < runs {
-        count_next(table, start, counts);
-        start += counts.len();
-        run += 1;
+    for run in 0..runs.saturating_sub(1) {
+        count_next(table, run * counts.len(), counts);
     }
 }
 
@@ -94,10 +90,8 @@ fn count_next(table: &[u8], start: usize, counts: &mut [u16])
     ensures { (c : ℕ) → c < length counts.old → get_or counts.new c 0 ≡ get_or counts.old c 0 + bit (differs table.now (length counts.old) start c) }
 {
     let next = start + counts.len();
-    let mut c = 0;
-    while c < counts.len() {
-        counts[c] += (table[next + c] != table[start + c]) as u16;
-        c += 1;
+    for (c, count) in counts.iter_mut().enumerate() {
+        *count += (table[next + c] != table[start + c]) as u16;
     }
 }
 
@@ -107,10 +101,8 @@ fn price_counts(counts: &[u16], prices: &[u32]) -> u64
     ensures { result ≡ priced_counts (λ c. get_or counts.now c 0) prices.now }
 {
     let mut pence = 0;
-    let mut c = 0;
-    while c < prices.len() {
-        pence += counts[c] as u64 * prices[c] as u64;
-        c += 1;
+    for (c, price) in prices.iter().enumerate() {
+        pence += counts[c] as u64 * *price as u64;
     }
     pence
 }

@@ -1,18 +1,17 @@
 -- What is printed of the check of a table: three lines, each closed by a line feed (document 02, K5 and K8). Text is the list of its bytes.
-use Rattle.std.specs.Prelude.{List, [], ◌∷◌, ◌++◌, ℕ, ℤ}
+use Rattle.std.specs.Prelude.{List, [], ◌∷◌, ◌++◌, ℕ, ℤ, Result, Ok, Err}
 use Rattle.decimals.specs.Decimals.{decimal_digits, signed_digits}
 use Rattle.words.specs.Words.{Reading, numbers, refused}
 use Rattle.sheets.specs.declared.answer.Refusal.TheVariants.{Unreadable}
+use Rattle.sheets.specs.declared.answer.Refusal.{Refusal}
 use Rattle.report.specs.Report.{refusal_line}
-use Rattle.question_4.specs.declared.Passing.{Passing}
-use Rattle.question_4.specs.declared.Passing.TheVariants.{AllPass, Refused}
 use Rattle.written_table.specs.WrittenTable.{refused_check, table_check}
 use Rattle.written_table.specs.declared.TableCheck.{TableCheck}
 
 -- The first line: "passes", or the refusal as the planner prints it.
-unfoldable pub passing_line : Passing → List ℕ
-passing_line AllPass = 112 ∷ 97 ∷ 115 ∷ 115 ∷ 101 ∷ 115 ∷ 10 ∷ []
-passing_line (Refused why) = refusal_line why
+unfoldable pub passing_line : Result (Unit {0}) Refusal → List ℕ
+passing_line (Ok tt) = 112 ∷ 97 ∷ 115 ∷ 115 ∷ 101 ∷ 115 ∷ 10 ∷ []
+passing_line (Err why) = refusal_line why
 
 -- The second: "gap" and the signed gap.
 unfoldable pub gap_line : ℤ → List ℕ

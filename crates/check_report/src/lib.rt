@@ -7,8 +7,8 @@ ghost use Rattle.check_report.specs.CheckReport.{passing_line, gap_line, pairs_l
 
 use buffers::{put_byte, put_bytes};
 use decimals::{put_number, put_signed};
-use question_4::Passing;
 use report::put_refused;
+use sheets::answer::Refusal;
 use written_table::TableCheck;
 
 // The whole of what is printed of a check, at the front of a buffer.
@@ -23,13 +23,13 @@ pub fn put_check(buf: &mut [u8], check: TableCheck) -> usize
 }
 
 // The first line, at the front of a buffer: that the table passes, or the refusal.
-fn put_passing(buf: &mut [u8], passing: Passing) -> usize
+fn put_passing(buf: &mut [u8], passing: Result<(), Refusal>) -> usize
     requires { 155 ≤ length buf.old }
     ensures { Put buf.old 0 (passing_line passing) buf.new result }
 {
     match passing {
-        Passing::AllPass => put_bytes(buf, 0, b"passes\n"),
-        Passing::Refused(why) => put_refused(buf, why),
+        Ok(()) => put_bytes(buf, 0, b"passes\n"),
+        Err(why) => put_refused(buf, why),
     }
 }
 

@@ -13,11 +13,10 @@ ghost use Rattle.check_report.specs.CheckReport.{check_printed, reading_checked,
 
 use check_report::put_check;
 use input::scan_input;
-use question_4::Passing;
 use sheets::answer::Refusal;
 use std::io;
 use std::io::Read;
-use words::Scanned;
+use words::BadWord;
 use written_check::check_written;
 use written_table::TableCheck;
 
@@ -45,14 +44,14 @@ fn answer_input<R: Read>(reader: &mut R, out: &mut [u8]) -> usize
 }
 
 // Puts what is printed for a text that comes to this: the check of its numbers, or the refusal of a word.
-fn put_scanned(scanned: Scanned, list: &[u16], out: &mut [u8]) -> usize
+fn put_scanned(scanned: Result<usize, BadWord>, list: &[u16], out: &mut [u8]) -> usize
     requires ended { Ended 32768 scanned list.now }
     requires check_room_in_bounds { check_room ≤ length out.old }
     ensures { Put out.old 0 (reading_checked (scanned_reading (scanned, list.now))) out.new result }
 {
     match scanned {
-        Scanned::Numbers { count } => put_written(&list[..count], out),
-        Scanned::Refused { place } => put_unreadable(place, out),
+        Ok(count) => put_written(&list[..count], out),
+        Err(BadWord { place }) => put_unreadable(place, out),
     }
 }
 
@@ -72,7 +71,7 @@ fn put_unreadable(place: usize, out: &mut [u8]) -> usize
     put_check(
         out,
         TableCheck {
-            passing: Passing::Refused(Refusal::Unreadable { place }),
+            passing: Err(Refusal::Unreadable { place }),
             gap: 0,
             pairs: 0,
         },

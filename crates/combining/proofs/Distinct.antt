@@ -12,6 +12,7 @@ use lib.Arith.{lt-one}
 use lib.Dec.{lit<}
 use lib.ListN.{length, get_or, take, drop, length-map, length-append, take-append-drop, length-drop}
 use lib.Seq.{length-take-le}
+use Rattle.std.specs.Prelude.{Ok}
 use Rattle.finite.specs.Digits.{digits, numeral, horner}
 use Rattle.finite.specs.Lists.{from}
 use Rattle.finite.proofs.Lists.{Below, none, more, all_below, each_below, below_append, below_map, all_zero, below_replicate, length_from, part_below}
@@ -24,7 +25,6 @@ use Rattle.galois.proofs.FieldAlgebra.{zero_below, plus_zero, cancel_right, comb
 use Rattle.counting.specs.Checkable.{CheckableGenerator}
 use Rattle.counting.specs.Generator.{Generator, generator_of, width, ElementsInRange, factors, factor_columns, columns_of, Increasing, IndependentColumns, Independent}
 use Rattle.counting.specs.GeneratorVerdict.{generator_verdict}
-use Rattle.counting.specs.declared.verdict.GeneratorFinding.TheVariants.{Passes}
 use Rattle.counting.proofs.GeneratorVerdicts.{no_columns, generator_passes}
 use Rattle.combining.specs.Combining.{block_columns, factor_block, row_combination, combination_code}
 
@@ -226,7 +226,7 @@ module _ (entries : List ℕ) (t s : ℕ) (us : List ℕ) where
   -- a generator whose codes are distinct passes
   pub distinct_passes : CheckableGenerator entries t s us
       → DistinctCodes (length us) (λ i. s ^ get_or us i 0) (λ i. combination_code entries t (width us) s (factor_block us i))
-      → generator_verdict (generator_of entries t s us) ≡ Passes
+      → generator_verdict (generator_of entries t s us) ≡ Ok tt
   unfolding generator_of
   distinct_passes ok d =
       let F = field s ok.size in

@@ -3,9 +3,10 @@
 use mathlib.Core.Path.{◌≡◌, refl, sym, ap}
 use mathlib.Core.List.{List, [], ◌∷◌, append-nil}
 use mathlib.Core.Option.{Option, none, some}
+use Rattle.std.specs.Prelude.{Some, None}
+use Rattle.std.proofs.lemmas.Option.{none-some}
 use Prim.Native.Nat.{ℕ, ◌+◌, ◌^◌, ◌≤◌, ◌<◌, zero-le}
 use native.Mathlib.Nat.{pow-zero}
-use native.Mathlib.Omega.{arith}
 use lib.Dec.{lit≤}
 use lib.ListN.{length, get_or}
 use Rattle.finite.specs.Sum.{sum}
@@ -17,19 +18,15 @@ use Rattle.counting.specs.Generator.{width, generator_of, ElementsInRange, facto
 use Rattle.counting.specs.GeneratorVerdict.{combines_to_zero, dependence, pair_dependence, only_dependence}
 use Rattle.combining.specs.Combining.{grid_of, block_columns, factor_block, no_block, BlocksIn, as_dependence}
 use Rattle.combining.specs.declared.Block.{Block}
-use Rattle.combining.specs.declared.Dependence.TheVariants.{Nothing, Least}
 
--- ---- what the enum says of the search
-least_not_nothing : (v : ℕ) → Least v ≡ Nothing → ⊥
-least_not_nothing v e = let z : ◌≡◌ {A = ℕ} 0 1 = cc in omega arith
-
-least_some : (o : Option ℕ) (v : ℕ) → Least v ≡ as_dependence o → o ≡ some v
-least_some none v e = absurd (least_not_nothing v e)
+-- ---- what the program's answer says of the search
+least_some : (o : Option ℕ) (v : ℕ) → Some v ≡ as_dependence o → o ≡ some v
+least_some none v e = absurd (none-some v (sym e))
 least_some (some w) v e = let p : w ≡ v = cc in ap some p
 
-nothing_none : (o : Option ℕ) → Nothing ≡ as_dependence o → o ≡ none
+nothing_none : (o : Option ℕ) → None ≡ as_dependence o → o ≡ none
 nothing_none none e = refl
-nothing_none (some w) e = absurd (least_not_nothing w (sym e))
+nothing_none (some w) e = absurd (none-some w e)
 
 -- ---- where the blocks lie
 module _ (entries : List ℕ) (t s : ℕ) (us : List ℕ) (ok : CheckableGenerator entries t s us) where
@@ -84,22 +81,22 @@ module _ (entries : List ℕ) (t s : ℕ) (us : List ℕ) (ok : CheckableGenerat
   abbrev found : List ℕ → Option ℕ
   found cs = dependence (field_sum s) (field_product s) (generator_of entries t s us) cs
 
-  pub pair_least : (i j v : ℕ) → Least v ≡ as_dependence (searched (factor_block us i) (factor_block us j))
+  pub pair_least : (i j v : ℕ) → Some v ≡ as_dependence (searched (factor_block us i) (factor_block us j))
       → pair_dependence (field_sum s) (field_product s) (generator_of entries t s us) i j ≡ some (record { first = i + 1; second = j + 1; coefficients = v })
   unfolding generator_of
   pair_least i j v e = rw (least_some (found (columns_of us (i ∷ j ∷ []))) v (rw (pair_columns i j, same_dependence) at e))
 
-  pub pair_nothing : (i j : ℕ) → Nothing ≡ as_dependence (searched (factor_block us i) (factor_block us j))
+  pub pair_nothing : (i j : ℕ) → None ≡ as_dependence (searched (factor_block us i) (factor_block us j))
       → pair_dependence (field_sum s) (field_product s) (generator_of entries t s us) i j ≡ none
   unfolding generator_of
   pair_nothing i j e = rw (nothing_none (found (columns_of us (i ∷ j ∷ []))) (rw (pair_columns i j, same_dependence) at e))
 
-  pub only_least : (v : ℕ) → Least v ≡ as_dependence (searched (factor_block us 0) no_block)
+  pub only_least : (v : ℕ) → Some v ≡ as_dependence (searched (factor_block us 0) no_block)
       → only_dependence (field_sum s) (field_product s) (generator_of entries t s us) ≡ some (record { first = 1; second = 0; coefficients = v })
   unfolding generator_of
   only_least v e = rw (least_some (found (columns_of us (0 ∷ []))) v (rw (only_columns, same_dependence) at e))
 
-  pub only_nothing : Nothing ≡ as_dependence (searched (factor_block us 0) no_block)
+  pub only_nothing : None ≡ as_dependence (searched (factor_block us 0) no_block)
       → only_dependence (field_sum s) (field_product s) (generator_of entries t s us) ≡ none
   unfolding generator_of
   only_nothing e = rw (nothing_none (found (columns_of us (0 ∷ []))) (rw (only_columns, same_dependence) at e))

@@ -1,5 +1,6 @@
 -- How the check of a generator combines columns: from the last element to the first, by the coefficients' digits from the lowest.
-use Rattle.std.specs.Prelude.{List, [], ◌∷◌, ◌++◌, map, ℕ, ◌+◌, ◌-◌, ◌*◌, ◌/◌, ◌^◌, ◌≤◌, ◌<◌, T, length, get_or}
+use Rattle.std.specs.Prelude as Prelude
+use Rattle.std.specs.Prelude.{Some, None, List, [], ◌∷◌, ◌++◌, map, ℕ, ◌+◌, ◌-◌, ◌*◌, ◌/◌, ◌^◌, ◌≤◌, ◌<◌, T, length, get_or}
 use Rattle.std.proofs.Math.Option.{Option, none, some}
 use Rattle.finite.specs.Sum.{sum}
 use Rattle.finite.specs.Digits.{digits, horner}
@@ -9,8 +10,6 @@ use Rattle.galois.specs.Combination.{combination}
 use Rattle.counting.specs.Generator.{Generator}
 use Rattle.combining.specs.declared.Block.{Block}
 use Rattle.combining.specs.declared.Combining.{Combining}
-use Rattle.combining.specs.declared.Dependence.{Dependence}
-use Rattle.combining.specs.declared.Dependence.TheVariants.{Nothing, Least}
 
 -- coefficients times elements, summed onto a combination that comes after them
 unfoldable pub combination_onto : (plus times : ℕ → ℕ → ℕ) → List ℕ → List ℕ → ℕ → ℕ
@@ -76,6 +75,7 @@ row_combination entries start s one other v =
 unfoldable pub combination_code : List ℕ → ℕ → ℕ → ℕ → Block → ℕ → ℕ
 combination_code entries t row s block v = horner s (λ r. row_combination entries (r * row) s block no_block v) t
 
-abbrev pub as_dependence : Option ℕ → Dependence
-as_dependence none = Nothing
-as_dependence (some v) = Least v
+-- the number of the least coefficient list that combines columns to zero, if there is one, as the program gives it
+abbrev pub as_dependence : Option ℕ → Prelude.Option ℕ
+as_dependence none = None
+as_dependence (some v) = Some v

@@ -8,13 +8,6 @@ pub struct Block {
     pub width: usize,
 }
 
-// The number of the least coefficient list that combines columns to zero, if there is one.
-#[derive(Clone, Copy)]
-pub enum Dependence {
-    Nothing,
-    Least(usize),
-}
-
 // Coefficients that are left to use, the last one lowest, and the combination so far.
 #[derive(Clone, Copy)]
 pub struct Combining {

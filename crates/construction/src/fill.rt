@@ -7,9 +7,8 @@ ghost use Rattle.promise.specs.Promise.{Settled};
 
 use carrying::carry_or_clear;
 use entry_range::first_out_of_range;
-use order::{Entries, Reading};
+use order::RangeFault;
 use passing::first_failing;
-use question_4::Passing;
 use reading::read;
 use sheets::answer::{Answer, Refusal};
 
@@ -27,8 +26,8 @@ fn check_and_carry_out(
     ensures zeros_2 { Zeros scratch.new }
 {
     match first_failing(list, scratch, levels) {
-        Passing::AllPass => carry_or_clear(list, table, levels, scratch),
-        Passing::Refused(why) => Answer::Refused(why),
+        Ok(()) => carry_or_clear(list, table, levels, scratch),
+        Err(why) => Answer::Refused(why),
     }
 }
 
@@ -40,12 +39,16 @@ pub(crate) fn fill(list: &[u16], table: &mut [u8], levels: &mut [u8], scratch: &
     ensures zeros_2 { Zeros scratch.new }
 {
     match read(list) {
-        Reading::Refused { place } => Answer::Refused(Refusal::Unreadable { place }),
-        Reading::Reads => match first_out_of_range(list) {
-            Entries::InRange => check_and_carry_out(list, table, levels, scratch),
-            Entries::OutOfRange { place } => Answer::Refused(Refusal::EntryOutOfRange { place }),
+        Ok(()) => match first_out_of_range(list) {
+            Ok(()) => check_and_carry_out(list, table, levels, scratch),
+            Err(RangeFault::OutOfRange { place }) => {
+                Answer::Refused(Refusal::EntryOutOfRange { place })
+            }
             // A list that reads is asked question 3.
-            Entries::Unread => Answer::Refused(Refusal::Unreadable { place: 0 }),
+            Err(RangeFault::Unread) => Answer::Refused(Refusal::Unreadable { place: 0 }),
         },
+        Err(refusal) => Answer::Refused(Refusal::Unreadable {
+            place: refusal.place,
+        }),
     }
 }

@@ -9,12 +9,12 @@ use native.Mathlib.Nat.{lt_of_le_of_lt}
 use native.Mathlib.Omega.{arith}
 use borrow.Author.Tests.{eq-eqb, ne_eqb, eqb-true, eqb-false}
 use lib.IntN.{nat_abs}
+use Rattle.std.specs.Prelude.{Ok, Err}
 use Rattle.integers.proofs.Differences.{difference_size}
 use Rattle.finite.proofs.Greatest.{Greatest, greatest_is}
 use Rattle.finite.proofs.Firsts.{first_ext, first_none, first_at, none_below, found_least}
 use Rattle.counting.specs.Verdict.{Counted, deviation, gap, farthest, table_finding}
 use Rattle.counting.specs.declared.verdict.TableFault.{TableFault}
-use Rattle.counting.specs.declared.verdict.TableFinding.TheVariants.{Passes, Fails}
 
 -- nothing where the test passes, and what stands there where it does not
 cond_none : {A : Type 0} (b : Bool) (a : A) → cond b none (some a) ≡ none → b ≡ true
@@ -90,13 +90,10 @@ pub deviation_ext : (n N : ℕ) {f g : ℕ → ℕ} → ((v : ℕ) → v < n →
 unfolding deviation
 deviation_ext n N e = first_ext n (λ v h. rw (e v h))
 
-pub fails_not_passes : (f : TableFault) → Fails f ≡ Passes → ⊥
-fails_not_passes f e = let z : ◌≡◌ {A = ℕ} 0 1 = cc in omega arith
-
-pub fails_some : (o : Option TableFault) (f : TableFault) → Fails f ≡ table_finding o → o ≡ some f
-fails_some none f e = absurd (fails_not_passes f e)
+pub fails_some : (o : Option TableFault) (f : TableFault) → Err f ≡ table_finding o → o ≡ some f
+fails_some none f e = cc
 fails_some (some g) f e = let p : f ≡ g = cc in ap some (sym p)
 
-pub passes_none : (o : Option TableFault) → Passes ≡ table_finding o → o ≡ none
+pub passes_none : (o : Option TableFault) → Ok tt ≡ table_finding o → o ≡ none
 passes_none none e = refl
-passes_none (some g) e = absurd (fails_not_passes g (sym e))
+passes_none (some g) e = cc

@@ -14,6 +14,7 @@ use borrow.Author.Tests.{eq-eqb, ne_eqb}
 use lib.Arith.{lt-one}
 use lib.Dec.{T, ltb, eqb→eq, lt→ltb, ltb→lt, lit<}
 use lib.ListN.{length}
+use Rattle.std.specs.Prelude.{Ok, Err}
 use Rattle.finite.specs.First.{first_pair}
 use Rattle.finite.specs.Digits.{digits, numeral}
 use Rattle.finite.specs.Lists.{AllBelow}
@@ -26,7 +27,6 @@ use Rattle.counting.specs.Generator.{Generator, factors, columns_of, Increasing,
 use Rattle.counting.specs.GeneratorVerdict.{combines_to_zero, dependence, pair_dependence, only_dependence, generator_fault, generator_finding, generator_verdict}
 use Rattle.counting.specs.Failures.{Combines, LeastDependence, FirstDependence, only, two}
 use Rattle.counting.specs.declared.verdict.DependenceFault.{DependenceFault}
-use Rattle.counting.specs.declared.verdict.GeneratorFinding.TheVariants.{Passes, Fails}
 
 cond_none : {A : Type 0} (b : Bool) (a : A) → cond b (some a) none ≡ none → T b → ⊥
 cond_none true a e t = some-ne-none a e
@@ -164,20 +164,17 @@ module _ (plus times : ℕ → ℕ → ℕ) (G : Generator) (positive : 0 < G.si
       (λ b g h. pair_independent l.one b (l.nearer b g h))))
 
 -- ---- the verdict, over the seven fields
-fails_not_passes : (f : DependenceFault) → Fails f ≡ Passes → ⊥
-fails_not_passes f e = let z : ◌≡◌ {A = ℕ} 0 1 = cc in omega arith
-
-passes_none : (o : Option DependenceFault) → generator_finding o ≡ Passes → o ≡ none
+passes_none : (o : Option DependenceFault) → generator_finding o ≡ Ok tt → o ≡ none
 passes_none none e = refl
-passes_none (some f) e = absurd (fails_not_passes f e)
+passes_none (some f) e = cc
 
-fails_some : (o : Option DependenceFault) (f : DependenceFault) → generator_finding o ≡ Fails f → o ≡ some f
-fails_some none f e = absurd (fails_not_passes f (sym e))
+fails_some : (o : Option DependenceFault) (f : DependenceFault) → generator_finding o ≡ Err f → o ≡ some f
+fails_some none f e = cc
 fails_some (some g) f e = let p : g ≡ f = cc in ap some p
 
 -- A generator passes exactly when any two of its factors, or its only one, are independent.
 pub generator_passes : (G : Generator) → 0 < G.size
-    → (generator_verdict G ≡ Passes) ↔ Independent (field_sum G.size) (field_product G.size) 2 G
+    → (generator_verdict G ≡ Ok tt) ↔ Independent (field_sum G.size) (field_product G.size) 2 G
 unfolding generator_verdict
 generator_passes G positive = (
   λ e. faults_independent _ _ G positive (passes_none _ e),
@@ -185,7 +182,7 @@ generator_passes G positive = (
 )
 
 -- What a generator's verdict names fails, and nothing before it does.
-pub generator_fails : (G : Generator) → 0 < G.size → (fault : DependenceFault) → generator_verdict G ≡ Fails fault
+pub generator_fails : (G : Generator) → 0 < G.size → (fault : DependenceFault) → generator_verdict G ≡ Err fault
     → FirstDependence (field_sum G.size) (field_product G.size) G fault
 unfolding generator_verdict
 generator_fails G positive fault e = first_dependence _ _ G positive fault (fails_some _ fault e)

@@ -1,16 +1,15 @@
 -- The verdict on a matrix passes exactly when it is a difference matrix; otherwise it names the first failure.
 -- Assumes nothing.
-use mathlib.Core.Path.{◌≡◌, refl, sym, ap, subst}
+use mathlib.Core.Path.{◌≡◌, refl, ap, subst}
 use mathlib.Core.Logic.{◌↔◌}
 use mathlib.Core.Option.{Option, none, some, map, map-eq-none_iff, map-eq-some_iff}
 use Prim.Native.Nat.{ℕ, ◌+◌, ◌<◌}
-use native.Mathlib.Omega.{arith}
+use Rattle.std.specs.Prelude.{Ok, Err}
 use Rattle.finite.proofs.Firsts.{pair_none, none_pair, found_pair}
 use Rattle.counting.specs.Matrix.{Matrix, DifferenceMatrix}
 use Rattle.counting.specs.Verdict.{Counted, difference_deviation, difference_fault, matrix_finding, matrix_verdict}
 use Rattle.counting.specs.Failures.{EvenDifference, EvenDifferences, FirstDifference}
 use Rattle.counting.specs.declared.verdict.DifferenceFault.{DifferenceFault}
-use Rattle.counting.specs.declared.verdict.MatrixFinding.TheVariants.{Passes, Fails}
 use Rattle.counting.proofs.Deviations.{deviation_none, none_even, some_lowest}
 
 -- ---- nothing is found exactly where every count is even
@@ -47,19 +46,16 @@ lowest_difference D c d x h hd firsts seconds e =
     }
 
 -- ---- the verdict
-fails_not_passes : (f : DifferenceFault) → Fails f ≡ Passes → ⊥
-fails_not_passes f e = let z : ◌≡◌ {A = ℕ} 0 1 = cc in omega arith
-
-passes_none : (o : Option DifferenceFault) → matrix_finding o ≡ Passes → o ≡ none
+passes_none : (o : Option DifferenceFault) → matrix_finding o ≡ Ok tt → o ≡ none
 passes_none none e = refl
-passes_none (some f) e = absurd (fails_not_passes f e)
+passes_none (some f) e = cc
 
-fails_some : (o : Option DifferenceFault) (f : DifferenceFault) → matrix_finding o ≡ Fails f → o ≡ some f
-fails_some none f e = absurd (fails_not_passes f (sym e))
+fails_some : (o : Option DifferenceFault) (f : DifferenceFault) → matrix_finding o ≡ Err f → o ≡ some f
+fails_some none f e = cc
 fails_some (some g) f e = let p : g ≡ f = cc in ap some p
 
 -- A matrix passes exactly when it is a difference matrix.
-pub matrix_passes : (D : Matrix) → (matrix_verdict D ≡ Passes) ↔ DifferenceMatrix D
+pub matrix_passes : (D : Matrix) → (matrix_verdict D ≡ Ok tt) ↔ DifferenceMatrix D
 unfolding matrix_verdict DifferenceMatrix EvenDifference
 matrix_passes D = (
   λ e c d v h hd hv. differences_even D c d (none_pair _ _ (passes_none _ e) c d h hd) v hv,
@@ -67,7 +63,7 @@ matrix_passes D = (
 )
 
 -- What a matrix's verdict names fails, and nothing before it does.
-pub matrix_fails : (D : Matrix) (fault : DifferenceFault) → matrix_verdict D ≡ Fails fault → FirstDifference D fault
+pub matrix_fails : (D : Matrix) (fault : DifferenceFault) → matrix_verdict D ≡ Err fault → FirstDifference D fault
 unfolding matrix_verdict
 matrix_fails D fault e =
     let l = found_pair _ _ fault (fails_some _ fault e) in

@@ -12,6 +12,7 @@ use native.Mathlib.Decide.{dec_lt}
 use lib.Arith.{lt_of_le-ne, digits_lt, digits_div, digits_mod}
 use lib.Dec.{eqb, lit≤}
 use lib.IntN.{ℤ, pos, nat_abs}
+use Rattle.std.specs.Prelude.{Result, Ok, Err}
 use Rattle.finite.specs.First.{◌or_else◌}
 use Rattle.finite.specs.Pairs.{ordinal}
 use Rattle.finite.proofs.Counts.{count_ext, count_all}
@@ -22,8 +23,6 @@ use Rattle.counting.specs.Verdict.{Counted, gap, column_deviation, column_fault,
 use Rattle.counting.specs.Failures.{EvenLevel, EvenPair, pair_gap, EvenColumn, EvenColumns, FirstFault, level, pair}
 use Rattle.counting.specs.declared.verdict.TableFault.{TableFault}
 use Rattle.counting.specs.declared.verdict.TableFault.TheVariants.{Column}
-use Rattle.counting.specs.declared.verdict.TableFinding.{TableFinding}
-use Rattle.counting.specs.declared.verdict.TableFinding.TheVariants.{Passes, Fails}
 use Rattle.counting.specs.declared.verdict.TableVerdict.{TableVerdict}
 use Rattle.counting.proofs.Deviations.{deviation_none, none_even, passes_none, fails_some, some_lowest, some_farthest}
 
@@ -165,7 +164,7 @@ pub named_gap : (T : Table) (c d v : ℕ)
 named_gap T c d v = rw (add-sub_cancel c 1, add-sub_cancel d 1)
 
 -- and so is their place
-pub named_place : (T : Table) (c d v : ℕ) → pairs_counted (columns T) (Fails (named_pair T c d v)) ≡ ordinal (columns T) c d
+pub named_place : (T : Table) (c d v : ℕ) → pairs_counted (columns T) (Err (named_pair T c d v)) ≡ ordinal (columns T) c d
 named_place T c d v = rw (add-sub_cancel c 1, add-sub_cancel d 1)
 
 farthest_pair_lem : (T : Table) (c d : ℕ) (x : Counted) → c < d → d < columns T
@@ -211,15 +210,15 @@ first_pair_fault T fault n e =
 
 -- ---- the verdict
 level_verdict : (T : Table) (fault : TableFault) → columns_fault T ≡ some fault
-    → record { finding = Fails fault; gap = pos 0; pairs = 0 } ≡ verdict_of T (some fault)
+    → record { finding = Err fault; gap = pos 0; pairs = 0 } ≡ verdict_of T (some fault)
 unfolding columns_fault
 level_verdict T fault e =
     let l = found_least _ _ fault e in
     let m = (map-eq-some_iff (λ (x : Counted). Column (l.place + 1) x.value x.times) (column_deviation T l.place)).0 l.there in
-    subst (λ f. record { finding = Fails f; gap = pos 0; pairs = 0 } ≡ verdict_of T (some f)) m.2 refl
+    subst (λ f. record { finding = Err f; gap = pos 0; pairs = 0 } ≡ verdict_of T (some f)) m.2 refl
 
 pub verdict_column : (T : Table) (fault : TableFault) → columns_fault T ≡ some fault
-    → record { finding = Fails fault; gap = pos 0; pairs = 0 } ≡ table_verdict T
+    → record { finding = Err fault; gap = pos 0; pairs = 0 } ≡ table_verdict T
 unfolding table_verdict
 verdict_column T fault e = rw e (level_verdict T fault e)
 
@@ -246,26 +245,26 @@ verdict_gap : (T : Table) → fault_gap T (columns_fault T or_else pairs_fault T
 verdict_gap T = ap (λ (v : TableVerdict). v.gap) (verdict_is T)
 
 -- A table passes exactly when it is even at strength two.
-pub table_passes : (T : Table) → ((table_verdict T).finding ≡ Passes) ↔ Even 2 T
+pub table_passes : (T : Table) → ((table_verdict T).finding ≡ Ok tt) ↔ Even 2 T
 table_passes T = (to, from)
   where
-    to : (table_verdict T).finding ≡ Passes → Even 2 T
+    to : (table_verdict T).finding ≡ Ok tt → Even 2 T
     to e =
         let n = or_else_none _ _ (passes_none _ (sym (verdict_finding T ∙ e))) in
         checked_even T (none_checked T n.0 n.1)
 
-    from : Even 2 T → (table_verdict T).finding ≡ Passes
+    from : Even 2 T → (table_verdict T).finding ≡ Ok tt
     from e =
         let k = even_checked T e in
         sym (verdict_finding T) ∙ rw (checked_columns T k, checked_pairs T k)
 
 -- After a pass the gap is 0.
-pub passes_gap : (T : Table) → (table_verdict T).finding ≡ Passes → (table_verdict T).gap ≡ pos 0
+pub passes_gap : (T : Table) → (table_verdict T).finding ≡ Ok tt → (table_verdict T).gap ≡ pos 0
 passes_gap T e = sym (verdict_gap T) ∙ ap (fault_gap T) (passes_none (columns_fault T or_else pairs_fault T) (sym (verdict_finding T ∙ e)))
 
 -- What a table's verdict names fails, and nothing before it does; of the first two uneven columns it is the pair that is farthest off. The verdict's gap goes
 -- with it.
-pub table_fails : (T : Table) (fault : TableFault) → (table_verdict T).finding ≡ Fails fault → FirstFault T fault (table_verdict T).gap
+pub table_fails : (T : Table) (fault : TableFault) → (table_verdict T).finding ≡ Err fault → FirstFault T fault (table_verdict T).gap
 table_fails T fault e =
     let found = fails_some _ fault (sym (verdict_finding T ∙ e)) in
     subst (FirstFault T fault) (ap (fault_gap T) (sym found) ∙ verdict_gap T)
@@ -276,13 +275,13 @@ pub verdict_counted : (T : Table) → (table_verdict T).pairs ≡ pairs_counted 
 unfolding table_verdict
 verdict_counted T = refl
 
-fault_within : (T : Table) (fault : TableFault) (g : ℤ) → FirstFault T fault g → pairs_counted (columns T) (Fails fault) ≤ columns T * (columns T - 1) / 2
+fault_within : (T : Table) (fault : TableFault) (g : ℤ) → FirstFault T fault g → pairs_counted (columns T) (Err fault) ≤ columns T * (columns T - 1) / 2
 fault_within T _ _ (level c x n f) = zero-le
 fault_within T _ _ (pair c d x y n f) = rw (add-sub_cancel c 1, add-sub_cancel d 1) (ordinal_most (columns T) c d f.ordered f.second_in)
 
-finding_within : (T : Table) (found : TableFinding) → (table_verdict T).finding ≡ found → pairs_counted (columns T) found ≤ columns T * (columns T - 1) / 2
-finding_within T Passes e = le_refl _
-finding_within T (Fails fault) e = fault_within T fault (table_verdict T).gap (table_fails T fault e)
+finding_within : (T : Table) (found : Result (Unit {0}) TableFault) → (table_verdict T).finding ≡ found → pairs_counted (columns T) found ≤ columns T * (columns T - 1) / 2
+finding_within T (Ok tt) e = le_refl _
+finding_within T (Err fault) e = fault_within T fault (table_verdict T).gap (table_fails T fault e)
 
 -- Of up to 128 columns they are never more than 8,128 (02, K8).
 pub counted_most : (T : Table) → columns T ≤ 128 → (table_verdict T).pairs ≤ 8128

@@ -1,5 +1,5 @@
 -- The verdict on a generator, with the first failure: document 01, question 4.
-use Rattle.std.specs.Prelude.{Bool, cond, ◌&&◌, List, [], ◌∷◌, map, ℕ, ◌+◌, ◌^◌, eqb, ltb, length}
+use Rattle.std.specs.Prelude.{Bool, cond, ◌&&◌, List, [], ◌∷◌, map, ℕ, ◌+◌, ◌^◌, eqb, ltb, length, Result, Ok, Err}
 use Rattle.std.proofs.Math.Option
 use Rattle.std.proofs.Math.Option.{Option, none, some}
 use Rattle.finite.specs.Sum.{every}
@@ -9,8 +9,6 @@ use Rattle.galois.specs.Arithmetic.{field_sum, field_product}
 use Rattle.galois.specs.Combination.{combination}
 use Rattle.counting.specs.Generator.{Generator, factors, columns_of}
 use Rattle.counting.specs.declared.verdict.DependenceFault.{DependenceFault}
-use Rattle.counting.specs.declared.verdict.GeneratorFinding.{GeneratorFinding}
-use Rattle.counting.specs.declared.verdict.GeneratorFinding.TheVariants.{Passes, Fails}
 
 -- a field's sum and product
 module _ (plus times : ℕ → ℕ → ℕ) where
@@ -40,10 +38,10 @@ module _ (plus times : ℕ → ℕ → ℕ) where
   unfoldable pub generator_fault : Generator → Option DependenceFault
   generator_fault G = cond (eqb (factors G) 1) (only_dependence G) (first_pair (factors G) (pair_dependence G))
 
-abbrev pub generator_finding : Option DependenceFault → GeneratorFinding
-generator_finding none = Passes
-generator_finding (some fault) = Fails fault
+abbrev pub generator_finding : Option DependenceFault → Result (Unit {0}) DependenceFault
+generator_finding none = Ok tt
+generator_finding (some fault) = Err fault
 
 -- over the field of the generator's size
-unfoldable pub generator_verdict : Generator → GeneratorFinding
+unfoldable pub generator_verdict : Generator → Result (Unit {0}) DependenceFault
 generator_verdict G = generator_finding (generator_fault (field_sum G.size) (field_product G.size) G)

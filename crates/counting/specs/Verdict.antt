@@ -1,5 +1,5 @@
 -- The verdicts on a table and on a difference matrix, with the first failure: document 01, question 4; document 02, K5 and K8.
-use Rattle.std.specs.Prelude.{cond, List, [], ◌∷◌, ℕ, ◌+◌, ◌-◌, ◌*◌, ◌/◌, ◌%◌, eqb, ℤ, pos, nat_abs, ◌-ℤ◌}
+use Rattle.std.specs.Prelude.{cond, List, [], ◌∷◌, ℕ, ◌+◌, ◌-◌, ◌*◌, ◌/◌, ◌%◌, eqb, ℤ, pos, nat_abs, ◌-ℤ◌, Result, Ok, Err}
 use Rattle.std.proofs.Math.Option.{Option, none, some, map}
 use Rattle.finite.specs.First.{first, first_pair, ◌or_else◌}
 use Rattle.finite.specs.Greatest.{greatest}
@@ -7,12 +7,8 @@ use Rattle.finite.specs.Pairs.{ordinal}
 use Rattle.counting.specs.Table.{Table, columns, levels_of, Setting, times}
 use Rattle.counting.specs.Matrix.{Matrix, differences}
 use Rattle.counting.specs.declared.verdict.DifferenceFault.{DifferenceFault}
-use Rattle.counting.specs.declared.verdict.MatrixFinding.{MatrixFinding}
-use Rattle.counting.specs.declared.verdict.MatrixFinding.TheVariants as MatrixFinding
 use Rattle.counting.specs.declared.verdict.TableFault.{TableFault}
 use Rattle.counting.specs.declared.verdict.TableFault.TheVariants.{Column, Pair}
-use Rattle.counting.specs.declared.verdict.TableFinding.{TableFinding}
-use Rattle.counting.specs.declared.verdict.TableFinding.TheVariants.{Passes, Fails}
 use Rattle.counting.specs.declared.verdict.TableVerdict.{TableVerdict}
 
 -- a value with the number of runs in which it stands
@@ -71,9 +67,9 @@ columns_fault T = first (columns T) (column_fault T)
 unfoldable pub pairs_fault : Table → Option TableFault
 pairs_fault T = first_pair (columns T) (pair_fault T)
 
-abbrev pub table_finding : Option TableFault → TableFinding
-table_finding none = Passes
-table_finding (some fault) = Fails fault
+abbrev pub table_finding : Option TableFault → Result (Unit {0}) TableFault
+table_finding none = Ok tt
+table_finding (some fault) = Err fault
 
 -- the gap of the pair of levels that is named, s × t × times − N; it is 0 where a level is named, and where nothing is (02, K5)
 abbrev pub fault_gap : Table → Option TableFault → ℤ
@@ -83,10 +79,10 @@ fault_gap T (some (Pair c d x y n)) = gap (levels_of T (c - 1) * levels_of T (d 
 
 -- how many pairs of m columns are counted: all of them for a table that passes, none where a column is uneven, and where two columns fail as many as the place
 -- of these two in the order says, from 1 (02, K8)
-abbrev pub pairs_counted : ℕ → TableFinding → ℕ
-pairs_counted m Passes = m * (m - 1) / 2
-pairs_counted m (Fails (Column c x n)) = 0
-pairs_counted m (Fails (Pair c d x y n)) = ordinal m (c - 1) (d - 1)
+abbrev pub pairs_counted : ℕ → Result (Unit {0}) TableFault → ℕ
+pairs_counted m (Ok tt) = m * (m - 1) / 2
+pairs_counted m (Err (Column c x n)) = 0
+pairs_counted m (Err (Pair c d x y n)) = ordinal m (c - 1) (d - 1)
 
 -- the verdict that a fault, or none, comes to
 abbrev pub verdict_of : Table → Option TableFault → TableVerdict
@@ -111,9 +107,9 @@ difference_fault D c d =
     (λ (x : Counted). record { first = c + 1; second = d + 1; difference = x.value; times = x.times })
     (difference_deviation D c d)
 
-abbrev pub matrix_finding : Option DifferenceFault → MatrixFinding
-matrix_finding none = MatrixFinding.Passes
-matrix_finding (some fault) = MatrixFinding.Fails fault
+abbrev pub matrix_finding : Option DifferenceFault → Result (Unit {0}) DifferenceFault
+matrix_finding none = Ok tt
+matrix_finding (some fault) = Err fault
 
-unfoldable pub matrix_verdict : Matrix → MatrixFinding
+unfoldable pub matrix_verdict : Matrix → Result (Unit {0}) DifferenceFault
 matrix_verdict D = matrix_finding (first_pair D.columns (difference_fault D))

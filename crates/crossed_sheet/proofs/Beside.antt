@@ -3,7 +3,7 @@
 use mathlib.Core.Path.{◌≡◌, sym, ◌∙◌, ap, ap₂}
 use mathlib.Core.List.{List, ◌++◌, map, flat_map}
 use Prim.Native.Nat.{ℕ, ◌+◌, ◌-◌, ◌*◌, ◌/◌, ◌≤◌, ◌<◌}
-use native.Mathlib.Nat.{le_trans, zero-add, div-lt_iff_lt-mul}
+use native.Mathlib.Nat.{le_trans, zero-add}
 use native.Mathlib.Omega.{arith}
 use lib.ListN.{length, get_or, take, drop, length-append}
 use Rattle.finite.specs.Lists.{from}
@@ -18,6 +18,7 @@ use Rattle.ingredients.proofs.Parts.{part_length, part_at}
 use Rattle.layout.specs.Bytes.{run_of, runs_of, padded, Holds, Zeros, LongEnough, sheet_in}
 use Rattle.layout.specs.declared.Size.{Size}
 use Rattle.layout.proofs.Bytes.{map_below, flat_map_same, run_length, runs_length}
+use Rattle.layout.proofs.Rows.{pieces_room}
 use Rattle.layout.proofs.Sheets.{sheet_columns, sheet_cell, cells_few, built_after, built_holds}
 use Rattle.crossed_sheet.specs.Crossing.{crossed_run, crossed_sheet, beside_run}
 use Rattle.crossed_sheet.proofs.Crossed.{crossed_columns, crossed_runs}
@@ -30,12 +31,21 @@ beside_length M H bytes runs m within r h =
     ∙ ap₂ ◌+◌ (part_length bytes (r * m) m (run_end r m h within)) (run_length H (r / M))
 
 -- its first part, as the code takes it, from its first byte up to its end
-pub run_part : (bytes : List ℕ) (m r start : ℕ) → start ≡ r * m → take (start + m - start) (drop start bytes) ≡ take m (drop (r * m) bytes)
-run_part bytes m r start e = let many : start + m - start ≡ m = omega arith in rw (many, e)
+pub run_part : (bytes : List ℕ) (m r : ℕ) → take (r * m + m - r * m) (drop (r * m) bytes) ≡ take m (drop (r * m) bytes)
+run_part bytes m r = let many : r * m + m - r * m ≡ m = omega arith in rw many
 
--- the old run that it was made from is one of h's
-pub old_below : (runs rows r : ℕ) → r < runs * rows → (0 < rows) × (r / rows < runs)
-old_below runs rows r h = let some = factor_positive runs rows h in (some, (div-lt_iff_lt-mul some).1 h)
+pub run_part_length : (bytes : List ℕ) (runs m r : ℕ) → runs * m ≤ length bytes → r < runs → length (take (r * m + m - r * m) (drop (r * m) bytes)) ≡ m
+run_part_length bytes runs m r used h = rw (run_part bytes m r) (part_length bytes (r * m) m (run_end r m h used))
+
+-- there is room for the next run
+pub run_room : (M : ℕ) (H : Table) (bytes : List ℕ) (runs m r : ℕ) {before buf : List ℕ} {place : ℕ}
+    → runs * m ≤ length bytes → r < runs → Put before 0 (flat_map (beside_run M H bytes m) (from 0 r)) buf place
+    → runs * (m + columns H) ≤ length before → place + (m + columns H) ≤ length buf
+run_room M H bytes runs m r used h put room = pieces_room _ _ _ _ (beside_length M H bytes runs m used) put h room
+
+-- where there is a run, it was made from a row
+pub some_row : (runs rows : ℕ) {all r : ℕ} → all ≡ runs * rows → r < all → 0 < rows
+some_row runs rows e h = factor_positive runs rows (rw e at h)
 
 -- the sheet of a size that lies in the buffers, and h
 module _ (M : ℕ) (H : Table) (table levels : List ℕ) (size : Size) (few : size.columns ≤ length levels) (used : size.runs * size.columns ≤ length table) where

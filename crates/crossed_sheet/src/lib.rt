@@ -35,15 +35,11 @@ fn put_crossed_runs(
     let runs = size.runs;
     let width = size.columns;
     let mut place = 0;
-    let mut start = 0;
-    let mut run = 0;
-    while run < runs {
+    for run in 0..runs {
         let old = run / rows;
-        let end = start + width;
-        place = put_bytes(buf, place, &table[start..end]);
+        let start = run * width;
+        place = put_bytes(buf, place, &table[start..start + width]);
         place = put_run(list, h, old, buf, place);
-        start = end;
-        run += 1;
     }
     place
 }

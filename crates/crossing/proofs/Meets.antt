@@ -1,13 +1,14 @@
 -- Questions 6 to 8 of CROSS, with that of 02, K6: from the single answers, and from the sheet that is built to the definition's.
 -- Assumes nothing.
-use mathlib.Core.Path.{◌≡◌, refl, sym, ◌∙◌, subst}
+use mathlib.Core.Path.{◌≡◌, refl, sym, ◌∙◌, ap, subst}
 use mathlib.Core.Bool.{true, false}
 use mathlib.Core.List.{List}
 use mathlib.Core.Option.{Option, none, some, map}
-use Prim.Native.Nat.{ℕ, ◌≤◌}
+use Prim.Native.Nat.{ℕ, ◌+◌, ◌≤◌}
 use native.Mathlib.Omega.{arith}
 use borrow.Author.Tests.{eq-eqb, ne_eqb}
-use lib.ListN.{length}
+use lib.ListN.{length, get_or}
+use Rattle.std.specs.Prelude.{Some, None}
 use Rattle.counting.specs.Matrix.{Matrix}
 use Rattle.counting.specs.Table.{Table, columns, table_of}
 use Rattle.step_tables.specs.Sheet.{Agree, SmallEnough}
@@ -29,19 +30,21 @@ use Rattle.sum_bytes.specs.Summing.{parts_fit, Serves, built_sheet}
 use Rattle.sum_bytes.proofs.SumMeets.{same_test, adjoined_same, meets_runs, meets_levels, meets_size}
 use Rattle.sum_bytes.proofs.SumSheet.{left_same}
 use Rattle.matrix_balance.specs.Balance.{balance_of}
-use Rattle.matrix_balance.specs.declared.Balance.TheVariants.{Even, Uneven}
+use Rattle.matrix_balance.specs.declared.Unevenness.{Unevenness}
 use Rattle.crossed_sheet.specs.Crossing.{crossed_sheet}
 use Rattle.crossed_sheet.proofs.Crossed.{crossed_agrees, cross_meets}
 
 -- ---- what the search answers
 
-uneven_found : (n : ℕ) (ds : List ℕ) (x : Option ValueFault) {i c v : ℕ} → Uneven i c v ≡ balance_of ds x
-    → map (value_refusal n ds) x ≡ some (UnevenValue n i c v)
+uneven_found : (n : ℕ) (ds : List ℕ) (x : Option ValueFault) {u : Unevenness} → Some u ≡ balance_of ds x
+    → map (value_refusal n ds) x ≡ some (UnevenValue n u.ingredient u.column u.value)
 unfolding balance_of value_refusal
 uneven_found n ds none e = absurd (let z : ◌≡◌ {A = ℕ} 0 1 = cc in omega arith)
-uneven_found n ds (some fault) {i} {c} {v} e = cc
+uneven_found n ds (some fault) {u} e =
+    let same : u ≡ record { ingredient = get_or ds fault.place 0; column = fault.column + 1; value = fault.value } = cc in
+    sym (ap (λ (w : Unevenness). some (UnevenValue n w.ingredient w.column w.value)) same)
 
-even_found : (n : ℕ) (ds : List ℕ) (x : Option ValueFault) → Even ≡ balance_of ds x → ◌≡◌ {A = Option Refusal} (map (value_refusal n ds) x) none
+even_found : (n : ℕ) (ds : List ℕ) (x : Option ValueFault) → None ≡ balance_of ds x → ◌≡◌ {A = Option Refusal} (map (value_refusal n ds) x) none
 unfolding balance_of
 even_found n ds none e = refl
 even_found n ds (some fault) e = absurd (let z : ◌≡◌ {A = ℕ} 0 1 = cc in omega arith)
@@ -64,10 +67,10 @@ module _ (ds : List ℕ) (Ds : List Matrix) (k : Option Table) (H S : Table) (ro
 
     module _ (as_many : H.runs ≡ S.runs) where
       -- a matrix is uneven
-      pub left_uneven : {i c v : ℕ} → Uneven i c v ≡ balance_of ds (serving_fault Ds S.levels)
-          → Left (operate n S (cross ds Ds k H)) table levels (Refused (UnevenValue n i c v)) table levels
+      pub left_uneven : {u : Unevenness} → Some u ≡ balance_of ds (serving_fault Ds S.levels)
+          → Left (operate n S (cross ds Ds k H)) table levels (Refused (UnevenValue n u.ingredient u.column u.value)) table levels
       unfolding operate fits cross_fits unless uneven_matrix value_refusal Left
-      left_uneven {i} {c} {v} found =
+      left_uneven found =
           rw (
             e,
             same_test Ds k S rows e n table levels ∙ sym holds,
@@ -77,7 +80,7 @@ module _ (ds : List ℕ) (Ds : List Matrix) (k : Option Table) (H S : Table) (ro
           (refl, refl, refl)
 
       -- none is
-      pub left_even : Even ≡ balance_of ds (serving_fault Ds S.levels) → (answer : Answer) (table' levels' : List ℕ)
+      pub left_even : None ≡ balance_of ds (serving_fault Ds S.levels) → (answer : Answer) (table' levels' : List ℕ)
           → Left (sized n (cross_step level_sum Ds (adjoined_table rows k) H S)) table levels answer table' levels'
           → Left (operate n S (cross ds Ds k H)) table levels answer table' levels'
       unfolding operate fits cross_fits unless uneven_matrix applied wrong_member after_sums

@@ -6,6 +6,7 @@ use mathlib.Core.Bool.{true, false}
 use mathlib.Core.List.{List}
 use mathlib.Core.Option.{none, bind}
 use Prim.Native.Nat.{ℕ, ◌≤◌}
+use Rattle.std.specs.Prelude.{None}
 use Rattle.counting.specs.Table.{Table}
 use Rattle.order.specs.Order.{CROSS}
 use Rattle.order.specs.Grammar.{read_order}
@@ -21,7 +22,6 @@ use Rattle.ingredients.proofs.NamedLaws.{table_named_lem}
 use Rattle.layout.specs.Step.{Readable, later_in, Left}
 use Rattle.layout.proofs.Operands.{later_in_lem}
 use Rattle.sum_bytes.specs.Summing.{matrices_at, is_missing, SumOperands, summands_of}
-use Rattle.sum_bytes.specs.declared.Summands.TheVariants.{Missing as Unnamed}
 use Rattle.sum_bytes.proofs.SumNames.{AllNamed, summands_missing, found_table, missing_table}
 
 module _ {list : List ℕ} (readable : Readable list) (at n : ℕ) (S : Table) (table levels : List ℕ) where
@@ -34,7 +34,7 @@ module _ {list : List ℕ} (readable : Readable list) (at n : ℕ) (S : Table) (
   later_is = later_in_lem readable 6 at n S
 
   -- a number of SUM's does not name what it should
-  pub left_unnamed : SumOperands list at → Unnamed ≡ summands_of list at → Left (later_in list n S 6 at) table levels (Refused (StepNotAllowed n)) table levels
+  pub left_unnamed : SumOperands list at → None ≡ summands_of list at → Left (later_in list n S 6 at) table levels (Refused (StepNotAllowed n)) table levels
   unfolding later operation provided bind Left
   left_unnamed operands e =
       ⊎_elim

@@ -14,10 +14,9 @@ ghost use Rattle.crossed_sheet.specs.Crossing.{crossed_sheet};
 use crossed_sheet::put_beside;
 use ingredients::named::{NamedTable, table_named};
 use layout::Size;
-use matrix_balance::{Balance, first_uneven};
+use matrix_balance::{Unevenness, first_uneven};
 use sheets::answer::{Answer, Refusal};
 use spare::sheet_answer;
-use sum_bytes::Summands;
 use sum_operands::{is_missing, matrix_named, summands};
 use sum_questions::parts_fit;
 use summed_sheet::{build, summed_columns};
@@ -97,17 +96,19 @@ fn fitting_cross(
         return not_fitting;
     }
     match first_uneven(list, ds, &levels[..m]) {
-        Balance::Uneven {
-            ingredient,
-            column,
-            value,
-        } => Answer::Refused(Refusal::UnevenValue {
+        Some(
+            Unevenness {
+                ingredient,
+                column,
+                value,
+            },
+        ) => Answer::Refused(Refusal::UnevenValue {
             step: number,
             ingredient,
             column,
             value,
         }),
-        Balance::Even => sized_cross(
+        None => sized_cross(
             list, number, &entries, &widths, rows, k, h, size, table, levels, scratch,
         ),
     }
@@ -129,26 +130,24 @@ pub fn cross(
     ensures zeros { Zeros scratch.new }
 {
     let not_allowed = Answer::Refused(Refusal::StepNotAllowed { step: number });
-    match summands(list, at) {
-        Summands::Missing => not_allowed,
-        Summands::Named { k } => {
-            let start = at + 1;
-            let end = start + list[at] as usize;
-            let h = table_named(list, list[end + 1] as usize);
-            if is_missing(h) {
-                return not_allowed;
-            }
-            fitting_cross(
-                list,
-                number,
-                &list[start..end],
-                k,
-                h,
-                size,
-                table,
-                levels,
-                scratch,
-            )
-        }
+    let Some(k) = summands(list, at) else {
+        return not_allowed;
+    };
+    let start = at + 1;
+    let end = start + list[at] as usize;
+    let h = table_named(list, list[end + 1] as usize);
+    if is_missing(h) {
+        return not_allowed;
     }
+    fitting_cross(
+        list,
+        number,
+        &list[start..end],
+        k,
+        h,
+        size,
+        table,
+        levels,
+        scratch,
+    )
 }

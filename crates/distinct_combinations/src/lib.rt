@@ -9,7 +9,6 @@ ghost use Rattle.combining.specs.Combining.{combined, ElementsAt, BlocksIn, no_b
 ghost use Rattle.combining.specs.Marks.{NewCodes};
 
 use combining::{Block, Combining};
-use counting::verdict::GeneratorFinding;
 use finite::power;
 
 // Whether the combinations of the columns of one factor, over all factors, are different from each other and from zero. Then any two factors
@@ -18,21 +17,21 @@ use finite::power;
 pub fn all_distinct(entries: &[u8], t: usize, row: usize, s: u8, widths: &[u8]) -> bool
     requires checkable_generator { CheckableGenerator entries.now t s widths.now }
     requires row_value { row ≡ width widths.now }
-    ensures { result ≡ true → generator_verdict (generator_of entries.now t s widths.now) ≡ GeneratorFinding.Passes }
+    ensures { result ≡ true → generator_verdict (generator_of entries.now t s widths.now) ≡ Ok tt }
 {
     let mut seen = [false; 512];
     // The code of zero counts as seen from the start.
     seen[0] = true;
     let mut start = 0;
-    let mut factor = 0;
-    while factor < widths.len() {
-        let width = widths[factor] as usize;
-        let block = Block { start, width };
+    for width in widths {
+        let block = Block {
+            start,
+            width: *width as usize,
+        };
         if !codes_are_new(entries, t, row, s, block, &mut seen) {
             return false;
         }
-        start += width;
-        factor += 1;
+        start += block.width;
     }
     true
 }
@@ -51,8 +50,7 @@ fn codes_are_new(
     ensures { result ≡ true → NewCodes seen.old seen.new (s ^ block.width) (combination_code entries.now t row s block) }
 {
     let end = power(s as usize, block.width);
-    let mut number = 1;
-    while number < end {
+    for number in 1..end {
         let code = combination_code(entries, t, row, s, block, number);
         // No mark stands for it, so whether it is new is not known.
         if 512 <= code {
@@ -62,7 +60,6 @@ fn codes_are_new(
             return false;
         }
         seen[code] = true;
-        number += 1;
     }
     true
 }
@@ -82,16 +79,12 @@ fn combination_code(
 {
     let none = Block { start: 0, width: 0 };
     let mut code = 0;
-    let mut start = 0;
-    let mut i = 0;
-    while i < t {
-        let element = row_combination(entries, start, s, block, none, coefficients);
+    for i in 0..t {
+        let element = row_combination(entries, i * row, s, block, none, coefficients);
         code = code * s as usize + element as usize;
         if 512 <= code {
             return code;
         }
-        start += row;
-        i += 1;
     }
     code
 }
@@ -128,9 +121,7 @@ fn combine(entries: &[u8], start: usize, end: usize, s: u8, so_far: Combining) -
 {
     let mut rest = so_far.rest;
     let mut sum = so_far.sum;
-    let mut at = end;
-    while start < at {
-        at -= 1;
+    for at in (start..end).rev() {
         let coefficient = (rest % s as usize) as u8;
         sum = field_sums::sum(s, field_products::product(s, coefficient, entries[at]), sum);
         rest /= s as usize;

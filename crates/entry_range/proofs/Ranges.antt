@@ -10,7 +10,9 @@ use Rattle.order.specs.Reader.{value, refused}
 use Rattle.order.specs.Grammar.{read_ingredient}
 use Rattle.order.specs.Answers.{located}
 use Rattle.order.specs.Range.{ingredient_range}
-use Rattle.order.specs.declared.Entries.TheVariants.{InRange, OutOfRange, Unread}
+use Rattle.std.specs.Prelude.{Ok, Err}
+use Rattle.order.specs.declared.RangeFault.{RangeFault}
+use Rattle.order.specs.declared.RangeFault.TheVariants.{Unread}
 use Rattle.order.proofs.Segment.{Segment, part_left, part_right, segment_fits, segment_numbers}
 use Rattle.order.proofs.Powers.{total_small}
 use Rattle.entry_range.specs.Search.{Inside, located_range, scanned}
@@ -42,24 +44,16 @@ module _ (list : List ℕ) (at : ℕ) where
       let body = part_right (3 ∷ t ∷ length widths ∷ []) (s ∷ widths ++ entries) seg in
       high_one (part_right widths entries (part_right (s ∷ []) (widths ++ entries) body)) (total widths) s t h₅
 
--- One of the ingredients that are left to check.
-module _ (list : List ℕ) (at : ℕ) where
-  pub scanned_on : (left : ℕ) {g : Ingredient} {next : ℕ} → 0 < left → read_ingredient list at ≡ value g next → ingredient_range (at + 3) g ≡ InRange → scanned left list at ≡ scanned (left - 1) list next
-  scanned_on zero h e r = absurd (omega arith)
-  scanned_on (suc left) h e r = let less : suc left - 1 ≡ left = omega arith in rw (less, e, r)
+-- One of n ingredients, after so many of them.
+module _ (list : List ℕ) (at n done : ℕ) where
+  pub scanned_on : {g : Ingredient} {next : ℕ} → done < n → read_ingredient list at ≡ value g next → ingredient_range (at + 3) g ≡ Ok tt → scanned (n - done) list at ≡ scanned (n - (done + 1)) list next
+  scanned_on h e r = let more : n - done ≡ suc (n - (done + 1)) = omega arith in rw (more, e, r)
 
-  pub scanned_high : (left : ℕ) {g : Ingredient} {next place : ℕ} → 0 < left → read_ingredient list at ≡ value g next → ingredient_range (at + 3) g ≡ OutOfRange place → scanned left list at ≡ OutOfRange place
-  scanned_high zero h e r = absurd (omega arith)
-  scanned_high (suc left) h e r = rw (e, r)
+  pub scanned_fault : {g : Ingredient} {next : ℕ} {fault : RangeFault} → done < n → read_ingredient list at ≡ value g next → ingredient_range (at + 3) g ≡ Err fault → scanned (n - done) list at ≡ Err fault
+  scanned_fault h e r = let more : n - done ≡ suc (n - (done + 1)) = omega arith in rw (more, e, r)
 
-  pub scanned_unread : (left : ℕ) {g : Ingredient} {next : ℕ} → 0 < left → read_ingredient list at ≡ value g next → ingredient_range (at + 3) g ≡ Unread → scanned left list at ≡ Unread
-  scanned_unread zero h e r = absurd (omega arith)
-  scanned_unread (suc left) h e r = rw (e, r)
+  pub scanned_refused : {place : ℕ} → done < n → read_ingredient list at ≡ refused place → scanned (n - done) list at ≡ Err Unread
+  scanned_refused h e = let more : n - done ≡ suc (n - (done + 1)) = omega arith in rw (more, e)
 
-  pub scanned_refused : (left : ℕ) {place : ℕ} → 0 < left → read_ingredient list at ≡ refused place → scanned left list at ≡ Unread
-  scanned_refused zero h e = absurd (omega arith)
-  scanned_refused (suc left) h e = rw e
-
-  pub scanned_done : (left : ℕ) → left ≤ 0 → scanned left list at ≡ InRange
-  scanned_done zero h = refl
-  scanned_done (suc left) h = absurd (omega arith)
+  pub scanned_done : n ≤ done → scanned (n - done) list at ≡ Ok tt
+  scanned_done h = let none : n - done ≡ 0 = omega arith in rw none

@@ -8,21 +8,19 @@ ghost use Rattle.entry_range.specs.Search.{Inside, located_range, scanned};
 
 use ingredient_places::ingredients_start;
 use list_ingredients::ingredient;
-use order::{Cursor, Entries, Located, Number, Spot};
+use order::{Cursor, Located, RangeFault};
 use row_limits::{first_high, first_not_below};
 
 // Question 3: is every entry below its levels, p or s?
-pub fn first_out_of_range(list: &[u16]) -> Entries
+pub fn first_out_of_range(list: &[u16]) -> Result<(), RangeFault>
     ensures { result ≡ range_of (read_order list.now) }
 {
-    match ingredients_start(list) {
-        Number::Is { value: q, next } => first_out_of_range_among(list, next, q),
-        Number::Refused { place: _ } => Entries::Unread,
-    }
+    let (q, next) = ingredients_start(list)?;
+    first_out_of_range_among(list, next, q)
 }
 
 // The first entry of an ingredient that is out of range.
-fn located_range(list: &[u16], what: Located) -> Entries
+fn located_range(list: &[u16], what: Located) -> Result<(), RangeFault>
     requires { Inside list.now what }
     ensures { result ≡ located_range list.now what }
 {
@@ -50,28 +48,18 @@ fn located_range(list: &[u16], what: Located) -> Entries
             width,
             entries_at,
         } => first_not_below(list, entries_at, t, width, s),
-        Located::Missing => Entries::InRange,
     }
 }
 
 // The first entry out of range of n ingredients, the first of which starts at the cursor.
-pub fn first_out_of_range_among(list: &[u16], start: Cursor, n: usize) -> Entries
+pub fn first_out_of_range_among(list: &[u16], start: Cursor, n: usize) -> Result<(), RangeFault>
     ensures { result ≡ scanned n list.now start.at }
 {
     let mut c = start;
-    let mut left = n;
-    while 0 < left {
-        match ingredient(list, c) {
-            Spot::Found { what, next } => match located_range(list, what) {
-                Entries::InRange => {
-                    c = next;
-                }
-                Entries::OutOfRange { place } => return Entries::OutOfRange { place },
-                Entries::Unread => return Entries::Unread,
-            },
-            Spot::Refused { place: _ } => return Entries::Unread,
-        }
-        left -= 1;
+    for _ in 0..n {
+        let (what, next) = ingredient(list, c)?;
+        located_range(list, what)?;
+        c = next;
     }
-    Entries::InRange
+    Ok(())
 }

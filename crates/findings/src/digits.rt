@@ -7,9 +7,7 @@ pub fn digit_values(text: &[u8], cells: &mut [u8])
     requires { length text.now ≤ length cells.old }
     ensures { take (length text.now) cells.new ≡ digit_values text.now }
 {
-    let mut i = 0;
-    while i < text.len() {
-        cells[i] = text[i] % 16;
-        i += 1;
+    for (i, digit) in text.iter().enumerate() {
+        cells[i] = *digit % 16;
     }
 }

@@ -5,7 +5,7 @@ mod digits; // digits.rt: the values of a text's digits
 
 ghost use Rattle.findings.specs.Written.{WrittenTable, WrittenMatrix, WrittenGenerator};
 
-use counting::verdict::{GeneratorFinding, MatrixFinding, TableFault, TableFinding};
+use counting::verdict::{DependenceFault, DifferenceFault, TableFault};
 use digits::digit_values;
 use generator_check::check_generator;
 use matrix_check::check_matrix;
@@ -69,10 +69,10 @@ pub fn report_generator(
     print_generator_finding(rt, finding)
 }
 
-fn print_table_finding(rt: &impl Print, finding: TableFinding) -> io::Result<()> {
+fn print_table_finding(rt: &impl Print, finding: Result<(), TableFault>) -> io::Result<()> {
     match finding {
-        TableFinding::Passes => print(rt, b": passes\n"),
-        TableFinding::Fails(fault) => print_table_fault(rt, fault),
+        Ok(()) => print(rt, b": passes\n"),
+        Err(fault) => print_table_fault(rt, fault),
     }
 }
 
@@ -102,10 +102,10 @@ fn print_table_fault(rt: &impl Print, fault: TableFault) -> io::Result<()> {
     print(rt, b"\n")
 }
 
-fn print_matrix_finding(rt: &impl Print, finding: MatrixFinding) -> io::Result<()> {
+fn print_matrix_finding(rt: &impl Print, finding: Result<(), DifferenceFault>) -> io::Result<()> {
     match finding {
-        MatrixFinding::Passes => print(rt, b": passes\n"),
-        MatrixFinding::Fails(fault) => {
+        Ok(()) => print(rt, b": passes\n"),
+        Err(fault) => {
             print_two(rt, b": fails, columns ", fault.first, fault.second)?;
             print_number(rt, b", difference ", fault.difference)?;
             print_number(rt, b", times ", fault.times)?;
@@ -114,10 +114,13 @@ fn print_matrix_finding(rt: &impl Print, finding: MatrixFinding) -> io::Result<(
     }
 }
 
-fn print_generator_finding(rt: &impl Print, finding: GeneratorFinding) -> io::Result<()> {
+fn print_generator_finding(
+    rt: &impl Print,
+    finding: Result<(), DependenceFault>,
+) -> io::Result<()> {
     match finding {
-        GeneratorFinding::Passes => print(rt, b": passes\n"),
-        GeneratorFinding::Fails(fault) => {
+        Ok(()) => print(rt, b": passes\n"),
+        Err(fault) => {
             print_two(rt, b": fails, factors ", fault.first, fault.second)?;
             print_number(rt, b", coefficients ", fault.coefficients)?;
             print(rt, b"\n")

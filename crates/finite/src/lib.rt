@@ -6,16 +6,14 @@ pub mod pairs; // pairs.rt: the pairs of the numbers below n, one after the othe
 
 ghost use Rattle.std.specs.Prelude.{◌≡◌, ◌^◌, ◌≤◌, ◌<◌};
 
-// s to the n-th power.
+// s to the n-th power. Where s is 1, n may be any number, so that std's `pow`, whose exponent is a u32, does not serve.
 pub fn power(s: usize, n: usize) -> usize
     requires { (0 < s) × (s ^ n ≤ 4294967296) }
     ensures { result ≡ s ^ n }
 {
     let mut product = 1;
-    let mut i = 0;
-    while i < n {
+    for _i in 0..n {
         product *= s;
-        i += 1;
     }
     product
 }

@@ -20,13 +20,11 @@ pub fn farthest_off(counters: &[u16], n: usize, runs: usize) -> Discrepancy
     ensures { result ≡ farthest_off n runs (λ v. get_or counters.now v 0) }
 {
     let mut farthest = discrepancy_at(counters, 0, n, runs);
-    let mut value = 0;
-    while value < n {
+    for value in 0..n {
         let next = discrepancy_at(counters, value, n, runs);
         if magnitude(farthest.gap) < magnitude(next.gap) {
             farthest = next;
         }
-        value += 1;
     }
     farthest
 }

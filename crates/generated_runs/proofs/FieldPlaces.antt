@@ -7,8 +7,8 @@ use native.Mathlib.Nat.{pow-le-pow_right, le_refl, le_trans, lt_of_lt_of_le, add
 use native.Mathlib.Numerals.{add-one}
 use native.Mathlib.Omega.{arith}
 use lib.Arith.{digits_div, digits_mod}
-use lib.ListN.{length, get_or, drop}
-use lib.Seq.{get_or-take, get_or-drop}
+use lib.ListN.{length, get_or, take, drop, length-take, length-drop}
+use lib.Seq.{get_or-take, get_or-drop, length-take-le}
 use Rattle.finite.specs.Digits.{digits, numeral}
 use Rattle.finite.specs.Lists.{from}
 use Rattle.finite.proofs.Digits.{digits_below, numeral_below}
@@ -27,6 +27,19 @@ use Rattle.generated_runs.specs.LevelSums.{digit_sums, single}
 use Rattle.generated_runs.specs.declared.GeneratorAt.{GeneratorAt}
 use Rattle.generated_runs.proofs.FieldRuns.{level_next}
 use Rattle.generated_runs.proofs.FieldSums.{value_sum, value_single}
+
+-- the n numbers from a place on, taken as a slice
+abbrev pub slice_of : List ℕ → ℕ → ℕ → List ℕ
+slice_of list start n = take (start + n - start) (drop start list)
+
+pub slice_at : (list : List ℕ) (start n i : ℕ) → i < n → get_or (slice_of list start n) i 0 ≡ get_or list (start + i) 0
+slice_at list start n i h = get_or-take _ (drop start list) i 0 (omega arith) ∙ get_or-drop start list i 0
+
+pub slice_inside : (list : List ℕ) (start n : ℕ) {i : ℕ} → i < length (slice_of list start n) → i < n
+slice_inside list start n h = omega (arith, length-take (start + n - start) (drop start list))
+
+pub slice_many : (list : List ℕ) (start n : ℕ) → start + n ≤ length list → length (slice_of list start n) ≡ n
+slice_many list start n h = length-take-le _ (drop start list) (omega (arith, length-drop start list)) ∙ omega arith
 
 -- the place of the element in row r and column c
 abbrev pub element_place : GeneratorAt → ℕ → ℕ → ℕ

@@ -59,11 +59,9 @@ pub fn put_runs(
         digit: 0,
     };
     let mut place = 0;
-    let mut run = 0;
-    while run < runs {
+    for run in 0..runs {
         lead = next_leading(g, lead, run);
         place = put_run(list, g, lead, run, most, sums, table, place);
-        run += 1;
     }
     place
 }
@@ -141,19 +139,13 @@ fn put_multiple(
     requires n_in_bounds { at + g.n ≤ length table.old }
     ensures { Put table.old at (run_of (field_step (field_generator list.now g)) (single g row digit)) table.new result }
 {
-    let widths_at = g.widths_at;
     let mut place = at;
     let mut column = 0;
-    let mut factor = 0;
-    while factor < g.n {
-        let width = list[widths_at + factor] as usize;
-        place = put_byte(
-            table,
-            place,
-            multiple_level(list, g, row, digit, column, width),
-        );
+    for width in &list[g.widths_at..g.widths_at + g.n] {
+        let width = *width as usize;
+        let level = multiple_level(list, g, row, digit, column, width);
+        place = put_byte(table, place, level);
         column += width;
-        factor += 1;
     }
     place
 }
@@ -175,11 +167,8 @@ fn multiple_level(
 {
     let start = g.entries_at + row * g.width + column;
     let mut level = 0;
-    let mut i = 0;
-    while i < width {
-        let product = field_products::product(g.s, digit, list[start + i] as u8);
-        level = level * g.s + product;
-        i += 1;
+    for entry in &list[start..start + width] {
+        level = level * g.s + field_products::product(g.s, digit, *entry as u8);
     }
     level
 }
@@ -199,12 +188,10 @@ fn put_sum(
     ensures { Put table.old at (run_sum most sums.now table.old one other n) table.new result }
 {
     let mut place = at;
-    let mut i = 0;
-    while i < n {
+    for i in 0..n {
         let x = table[one + i] as usize;
         let y = table[other + i] as usize;
         place = put_byte(table, place, sums[x * most + y]);
-        i += 1;
     }
     place
 }

@@ -1,5 +1,7 @@
 -- The generator that FIELD names: where it stands, and what the step comes to.
 -- Assumes nothing.
+use Rattle.std.specs.Prelude
+use Rattle.std.specs.Prelude.{Some, None}
 use mathlib.Core.Path.{◌≡◌, refl, sym, ◌∙◌, ap}
 use mathlib.Core.Logic.{⊎_elim}
 use mathlib.Core.List.{List}
@@ -11,7 +13,7 @@ use Rattle.order.specs.Order.{Ingredient, generator, FactorWidth, IngredientLimi
 use Rattle.order.specs.Grammar.{read_order}
 use Rattle.order.specs.Answers.{located}
 use Rattle.order.specs.declared.Located.{Located}
-use Rattle.order.specs.declared.Located.TheVariants.{Table as TableAt, Matrix as MatrixAt, Generator as GeneratorIs, Missing}
+use Rattle.order.specs.declared.Located.TheVariants.{Table as TableAt, Matrix as MatrixAt, Generator as GeneratorIs}
 use Rattle.order.proofs.Segment.{Segment, segment_fits}
 use Rattle.places.specs.Places.{ingredient_at, ingredient_in}
 use Rattle.places.proofs.Stands.{ingredient_stands, ingredient_described}
@@ -29,10 +31,13 @@ use Rattle.layout.proofs.Operands.{list_short, operands_limits, first_in_lem}
 use Rattle.generated_runs.proofs.FieldSheet.{sheet_of, sheet_runs, sheet_columns}
 
 -- the places of a generator, as a look-up gives them
-abbrev pub places_of : GeneratorAt → Located
-places_of g = GeneratorIs g.t g.n g.s g.widths_at g.width g.entries_at
+abbrev pub places_of : GeneratorAt → Prelude.Option Located
+places_of g = Some (GeneratorIs g.t g.n g.s g.widths_at g.width g.entries_at)
 
 -- two look-ups that give the same places
+pub some_same : {L L' : Located} → Some L ≡ Some L' → L ≡ L'
+some_same e = cc
+
 same_places : {t n s wa w ea t' n' s' wa' w' ea' : ℕ} → GeneratorIs t n s wa w ea ≡ GeneratorIs t' n' s' wa' w' ea'
     → (n ≡ n') × (wa ≡ wa') × (w ≡ w') × (ea ≡ ea')
 same_places e = (cc, cc, cc, cc)
@@ -50,13 +55,13 @@ module _ {list : List ℕ} (readable : Readable list) (k : ℕ) (g : GeneratorAt
   unfolding widths_in
   here = sym (ingredient_described list o reads k) ∙ ap (ingredient_in list) found
 
-  stands_so : (place after : ℕ) → ingredient_at (read_order list) (suc k) ≡ located (place + 3) (generator_from list g)
+  stands_so : (place after : ℕ) → ingredient_at (read_order list) (suc k) ≡ Some (located (place + 3) (generator_from list g))
       → IngredientLimits (generator_from list g) → Segment list place (written_ingredient (generator_from list g)) after → FieldStands list g
   unfolding field_generator
   stands_so place after same limits s =
       let ws = widths_in list g in
       let es = take (g.t * g.width) (drop g.entries_at list) in
-      let places = same_places (sym found ∙ same) in
+      let places = same_places (some_same (sym found ∙ same)) in
       let ends = segment_fits s (omega arith) in
       record {
         short = list_short readable;
@@ -104,17 +109,17 @@ field_outcome {list} {at} readable stands =
     (listed_at list readable.order readable.reads as_generator (get_or list at 0) (field_number readable stands))
 
 -- a table, a matrix and nothing are no generator
-no_generator : (list : List ℕ) (found : Located) → ((g : GeneratorAt) → found ≡ places_of g → ⊥) → bind (ingredient_in list found) as_generator ≡ none
+no_generator : (list : List ℕ) (found : Prelude.Option Located) → ((g : GeneratorAt) → found ≡ places_of g → ⊥) → bind (ingredient_in list found) as_generator ≡ none
 unfolding bind as_generator
-no_generator list (TableAt rows columns levels entries) h = refl
-no_generator list (MatrixAt rows columns p entries) h = refl
-no_generator list (GeneratorIs t n s widths width entries) h =
+no_generator list (Some (TableAt rows columns levels entries)) h = refl
+no_generator list (Some (MatrixAt rows columns p entries)) h = refl
+no_generator list (Some (GeneratorIs t n s widths width entries)) h =
     absurd (h (record { t = t; n = n; s = s; widths_at = widths; width = width; entries_at = entries }) refl)
-no_generator list Missing h = refl
+no_generator list None h = refl
 
 -- question 5: a No where ingredient i is no generator
 pub field_refused : {list : List ℕ} {at : ℕ} → Readable list → Stands list 2 at
-    → (found : Located) → found ≡ ingredient_at (read_order list) (get_or list at 0) → ((g : GeneratorAt) → found ≡ places_of g → ⊥)
+    → (found : Prelude.Option Located) → found ≡ ingredient_at (read_order list) (get_or list at 0) → ((g : GeneratorAt) → found ≡ places_of g → ⊥)
     → first_in list 2 at ≡ refused (StepNotAllowed 1)
 unfolding provided
 field_refused {list} readable stands found e other =

@@ -1,7 +1,7 @@
 // Step 2, FIELD i: the sheet is the table that generator i makes. Its entries and widths are read from the list where they stand.
 #![tactic(auto)]
 
-ghost use Rattle.std.specs.Prelude.{◌≡◌, ◌*◌, ◌^◌, ◌≤◌, max, T, length};
+ghost use Rattle.std.specs.Prelude.{◌≡◌, ◌*◌, ◌^◌, ◌≤◌, T, length};
 ghost use Rattle.galois.specs.Arithmetic.{field_size};
 ghost use Rattle.sheets.specs.Steps.{filled, field_step};
 ghost use Rattle.buffers.specs.Put.{Put};
@@ -27,27 +27,30 @@ pub fn field(list: &[u16], at: usize, table: &mut [u8], levels: &mut [u8]) -> An
     requires in_bounds_2 { (128 ≤ length levels.old) × Zeros levels.old }
     ensures { Left (first_in list.now 2 at) table.old levels.old result table.new levels.new }
 {
-    match ingredient_at(list, list[at] as usize) {
-        Located::Generator {
-            t,
-            n,
-            s,
-            widths_at,
-            width,
-            entries_at,
-        } => {
-            let g = GeneratorAt {
-                t,
-                n,
-                s: s as u8,
-                widths_at,
-                width,
-                entries_at,
-            };
-            fill(list, g, table, levels)
-        }
-        _ => Answer::Refused(Refusal::StepNotAllowed { step: 1 }),
-    }
+    let not_allowed = Answer::Refused(Refusal::StepNotAllowed { step: 1 });
+    let Some(what) = ingredient_at(list, list[at] as usize) else {
+        return not_allowed;
+    };
+    let Located::Generator {
+        t,
+        n,
+        s,
+        widths_at,
+        width,
+        entries_at,
+    } = what
+    else {
+        return not_allowed;
+    };
+    let g = GeneratorAt {
+        t,
+        n,
+        s: s as u8,
+        widths_at,
+        width,
+        entries_at,
+    };
+    fill(list, g, table, levels)
 }
 
 // The sheet of a generator: its level counts and its runs.
@@ -71,14 +74,11 @@ fn put_levels(list: &[u16], g: GeneratorAt, levels: &mut [u8]) -> usize
     requires in_bounds { 128 ≤ length levels.old }
     ensures { Put levels.old 0 (field_step (field_generator list.now g)).levels levels.new result }
 {
-    let widths_at = g.widths_at;
-    let mut factor = 0;
-    while factor < g.n {
-        let width = list[widths_at + factor] as usize;
-        put_byte(levels, factor, power(g.s as usize, width) as u8);
-        factor += 1;
+    let mut place = 0;
+    for width in &list[g.widths_at..g.widths_at + g.n] {
+        place = put_byte(levels, place, power(g.s as usize, *width as usize) as u8);
     }
-    factor
+    place
 }
 
 // The most columns that a factor has.
@@ -86,24 +86,15 @@ fn widest(list: &[u16], g: GeneratorAt) -> usize
     requires { FieldStands list.now g }
     ensures { WidthsTo list.now g result × (g.s ^ result ≤ 64) }
 {
-    let widths_at = g.widths_at;
     let mut most = 0;
-    let mut factor = 0;
-    while factor < g.n {
-        most = larger(most, list[widths_at + factor] as usize);
-        factor += 1;
+    for width in &list[g.widths_at..g.widths_at + g.n] {
+        most = most.max(*width as usize);
     }
     most
 }
 
-// The larger of two numbers.
-fn larger(a: usize, b: usize) -> usize
-    ensures { result ≡ max a b }
-{
-    if a < b { b } else { a }
-}
-
 // The sums of any two levels below s to the power of `width`, digit by digit in the field. That of the digits before the last is there already.
+#[tactic(auto, using(galois::proofs::Fields::size_positive))]
 fn level_sums(s: u8, width: usize) -> [u8; 4096]
     requires { T (field_size s) × (s ^ width ≤ 64) }
     ensures { SumsOf s width (s ^ width * s ^ width) result }
@@ -111,13 +102,11 @@ fn level_sums(s: u8, width: usize) -> [u8; 4096]
     let base = s as usize;
     let most = power(base, width);
     let mut sums = [0u8; 4096];
-    let mut place = 1;
-    while place < most * most {
+    for place in 1..most * most {
         let x = place / most;
         let y = place % most;
         let before = sums[x / base * most + y / base];
         sums[place] = before * s + field_sums::sum(s, (x % base) as u8, (y % base) as u8);
-        place += 1;
     }
     sums
 }

@@ -2,8 +2,8 @@
 -- Assumes nothing.
 use mathlib.Core.Path.{◌≡◌, refl, sym, ◌∙◌, ap, ap₂}
 use mathlib.Core.Logic.{◌↔◌}
-use mathlib.Core.Bool.{Bool, true, false, ◌&&◌, and_assoc, true≢false}
-use mathlib.Core.List.{List}
+use mathlib.Core.Bool.{Bool, true, false, ◌&&◌, and_assoc, and-true, true≢false}
+use mathlib.Core.List.{List, [], ◌∷◌}
 use Prim.Native.Nat.{ℕ, zero, suc, ◌+◌, ◌*◌, ◌≤◌, ◌<◌}
 use native.Mathlib.Nat.{suc-mul, mul-le-mul, mul-le-mul_right, le_step, lt-suc_self}
 use native.Mathlib.Numerals.{add-one}
@@ -11,6 +11,7 @@ use native.Mathlib.Omega.{arith}
 use lib.Dec.{T, leb, ltb, leb→le, le→leb}
 use lib.ListN.{length, get_or, take}
 use lib.Seq.{get_or-take, length-take-le}
+use Rattle.std.specs.List.{list_all}
 use Rattle.finite.specs.Sum.{every}
 use Rattle.finite.proofs.Tests.{T_and, every_all, all_every}
 use Rattle.given_sheet.specs.Given.{WellFormed, size_within, buffers_long, counts_within, entries_below, well_formed}
@@ -28,11 +29,22 @@ unfolding every
 every_same zero f g same = refl
 every_same (suc n) f g same = ap₂ ◌&&◌ (every_same n f g (λ i h. same i (le_step h))) (same n (lt-suc_self n))
 
-pub counts_next : (levels : List ℕ) (c : ℕ) → counts_within (c + 1) levels ≡ ((counts_within c levels && leb 2 (get_or levels c 0)) && leb (get_or levels c 0) 64)
+-- the first one by itself
+every_first : (n : ℕ) (f : ℕ → Bool) → every (suc n) f ≡ (f 0 && every n (λ i. f (suc i)))
+unfolding every
+every_first zero f = sym (and-true (f 0))
+every_first (suc n) f = rw (every_first n f) (and_assoc (f 0) (every n (λ i. f (suc i))) (f (suc n)))
+
+-- a test of all numbers of a list
+every_of : (test : ℕ → Bool) (xs : List ℕ) → list_all test xs ≡ every (length xs) (λ i. test (get_or xs i 0))
+unfolding every
+every_of test [] = refl
+every_of test (x ∷ xs) = ap (λ b. test x && b) (every_of test xs) ∙ sym (every_first (length xs) (λ i. test (get_or (x ∷ xs) i 0)))
+
+-- the test of the level counts, as std says it
+pub counts_are : (levels : List ℕ) → list_all (λ count. leb 2 count && leb count 64) levels ≡ counts_within (length levels) levels
 unfolding counts_within
-counts_next levels c =
-    every_next c (λ k. leb 2 (get_or levels k 0) && leb (get_or levels k 0) 64)
-    ∙ sym (and_assoc (counts_within c levels) (leb 2 (get_or levels c 0)) (leb (get_or levels c 0) 64))
+counts_are levels = every_of (λ count. leb 2 count && leb count 64) levels
 
 pub entries_next : (m : ℕ) (levels table : List ℕ) (r : ℕ)
     → entries_below (r + 1) m levels table ≡ (entries_below r m levels table && every m (λ c. ltb (get_or table (r * m + c) 0) (get_or levels c 0)))
@@ -152,9 +164,6 @@ module _ (N m : ℕ) (levels table : List ℕ) where
       -- as many level counts as columns, and room for all entries
       pub counts_many : length (take m levels) ≡ m
       counts_many = length-take-le m levels ((long_iff N m levels table).0 (passed _ long)).0
-
-      pub entries_room : N * length (take m levels) ≤ length table
-      entries_room = rw counts_many ((long_iff N m levels table).0 (passed _ long)).1
 
       pub wrong_counts : counts_within (length (take m levels)) (take m levels) ≡ false → false ≡ well_formed N m levels table
       unfolding well_formed

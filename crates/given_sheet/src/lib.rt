@@ -33,13 +33,7 @@ fn is_size_within(runs: usize, columns: usize) -> bool
 fn are_counts_within(counts: &[u8]) -> bool
     ensures { result ≡ counts_within (length counts.now) counts.now }
 {
-    let mut all = true;
-    let mut c = 0;
-    while c < counts.len() {
-        all = all & (2 <= counts[c]) & (counts[c] <= 64);
-        c += 1;
-    }
-    all
+    counts.iter().all(|count| 2 <= *count && *count <= 64)
 }
 
 // Whether every entry of so many runs is below the level count of its column.
@@ -48,12 +42,8 @@ fn are_entries_below(table: &[u8], runs: usize, counts: &[u8]) -> bool
     ensures { result ≡ entries_below runs (length counts.now) counts.now table.now }
 {
     let mut all = true;
-    let mut run = 0;
-    let mut start = 0;
-    while run < runs {
-        all = all & is_run_below(table, start, counts);
-        start += counts.len();
-        run += 1;
+    for run in 0..runs {
+        all = all & is_run_below(table, run * counts.len(), counts);
     }
     all
 }
@@ -65,10 +55,8 @@ fn is_run_below(table: &[u8], start: usize, counts: &[u8]) -> bool
     ensures { result ≡ every (length counts.now) (λ c. ltb (get_or table.now (start + c) 0) (get_or counts.now c 0)) }
 {
     let mut all = true;
-    let mut c = 0;
-    while c < counts.len() {
-        all = all & (table[start + c] < counts[c]);
-        c += 1;
+    for (c, count) in counts.iter().enumerate() {
+        all = all & (table[start + c] < *count);
     }
     all
 }

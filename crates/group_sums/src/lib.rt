@@ -5,6 +5,7 @@ ghost use Rattle.std.specs.Prelude.{◌≡◌, ◌+◌, ◌%◌, ◌<◌};
 ghost use Rattle.galois.specs.Levels.{over_field, level_sum};
 
 // Whether the sums are those of a field.
+#[tactic(auto, unfolding(galois::specs::Levels::over_field))]
 pub fn over_field(p: u8) -> bool
     ensures { result ≡ over_field p }
 {

@@ -8,13 +8,13 @@ use Prim.Native.Nat.{ℕ}
 use native.Mathlib.Omega.{arith}
 use borrow.Author.Tests.{le-leb}
 use lib.Dec.{T, eqb, ltb, leb, ltb→lt, leb→le}
+use Rattle.std.specs.Prelude.{Ok}
 use Rattle.finite.specs.Sum.{sum, count, every}
 use Rattle.finite.specs.First.{first, first_after, first_pair}
 use Rattle.finite.proofs.Tests.{all_every, T_and}
 use Rattle.counting.specs.Table.{Table, columns, levels_of, InRange, Even, shows, times}
 use Rattle.counting.specs.Verdict.{deviation, column_deviation, columns_fault, pair_deviation, pairs_fault, table_verdict}
 use Rattle.house.specs.House.{house101, house102, house103, house104, HouseNumber, house_of, house_table}
-use Rattle.counting.specs.declared.verdict.TableFinding.TheVariants.{Passes}
 use Rattle.counting.proofs.TableVerdicts.{table_passes}
 
 -- every entry is in range, as a test
@@ -27,10 +27,10 @@ in_range A t r c hr hc = ltb→lt _ _ (all_every _ _ (all_every _ _ t r hr) c hc
 
 -- what is asked of a table: it passes, and its entries are in range
 pub record Passing (A : Table) : Type 0 where
-  pub verdict : (table_verdict A).finding ≡ Passes
+  pub verdict : (table_verdict A).finding ≡ Ok tt
   pub in_range : InRange A
 
-passing : (A : Table) → (table_verdict A).finding ≡ Passes → T (every_in_range A) → Passing A
+passing : (A : Table) → (table_verdict A).finding ≡ Ok tt → T (every_in_range A) → Passing A
 passing A v t = record { verdict = v; in_range = in_range A t }
 
 passing_101 : Passing house101

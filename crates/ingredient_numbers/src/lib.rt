@@ -8,7 +8,7 @@ ghost use Rattle.order.specs.Answers.{number_of, total_of};
 
 use finite::power;
 use list_numbers::{accept, peek};
-use order::{Cursor, Number};
+use order::{Cursor, Refused};
 
 // The limit on rows.
 pub fn most_rows(kind: usize) -> usize
@@ -35,7 +35,7 @@ fn is_field_size(t: usize, s: usize) -> bool
 }
 
 // The size of a field for a generator of t rows.
-pub fn field_size(list: &[u16], c: Cursor, t: usize) -> Number
+pub fn field_size(list: &[u16], c: Cursor, t: usize) -> Result<(usize, Cursor), Refused>
     requires { t ≤ 9 }
     ensures { result ≡ number_of (allowed (generator_field t) list.now c.at) }
 {
@@ -57,7 +57,7 @@ fn is_width(s: usize, u: usize) -> bool
 }
 
 // The width of a factor over a field of s elements.
-fn factor_width(list: &[u16], c: Cursor, s: usize) -> Number
+fn factor_width(list: &[u16], c: Cursor, s: usize) -> Result<(usize, Cursor), Refused>
     requires { (2 ≤ s) × (s ≤ 9) }
     ensures { result ≡ number_of (allowed (factor_width s) list.now c.at) }
 {
@@ -65,25 +65,16 @@ fn factor_width(list: &[u16], c: Cursor, s: usize) -> Number
 }
 
 // The widths of n factors over a field of s elements, and their sum.
-pub fn widths(list: &[u16], start: Cursor, n: usize, s: usize) -> Number
+pub fn widths(list: &[u16], start: Cursor, n: usize, s: usize) -> Result<(usize, Cursor), Refused>
     requires { ((2 ≤ s) × (s ≤ 9)) × (n ≤ 128) }
     ensures { result ≡ total_of (repeated n (allowed (factor_width s)) list.now start.at) }
 {
     let mut c = start;
-    let mut left = n;
     let mut sum = 0;
-    while 0 < left {
-        match factor_width(list, c, s) {
-            Number::Is { value, next } => {
-                sum += value;
-                c = next;
-            }
-            Number::Refused { place } => return Number::Refused { place },
-        }
-        left -= 1;
+    for _ in 0..n {
+        let (width, next) = factor_width(list, c, s)?;
+        sum += width;
+        c = next;
     }
-    Number::Is {
-        value: sum,
-        next: c,
-    }
+    Ok((sum, c))
 }

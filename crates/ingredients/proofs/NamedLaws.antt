@@ -1,5 +1,7 @@
 -- The table, matrix or generator that a number names in 01's sense is the one that a look-up finds in the list, and it keeps 01's limits.
 -- Assumes nothing.
+use Rattle.std.specs.Prelude
+use Rattle.std.specs.Prelude.{Some, None}
 use mathlib.Core.Path.{◌≡◌, refl, ◌∙◌}
 use mathlib.Core.Bool.{Bool, true, false, cond, ◌&&◌}
 use mathlib.Core.List.{List}
@@ -20,7 +22,7 @@ use Rattle.house.proofs.Passing.{house_of_passes}
 use Rattle.order.specs.Order.{Ingredient, Order, Between}
 use Rattle.order.specs.Grammar.{read_order, Reads}
 use Rattle.order.specs.declared.Located.{Located}
-use Rattle.order.specs.declared.Located.TheVariants.{Table as TableAt, Matrix as MatrixAt, Generator as GeneratorAt, Missing as NothingAt}
+use Rattle.order.specs.declared.Located.TheVariants.{Table as TableAt, Matrix as MatrixAt, Generator as GeneratorAt}
 use Rattle.order.specs.Range.{EntriesInRange}
 use Rattle.places.specs.Places.{ingredient_at, ingredient_in}
 use Rattle.places.proofs.Stands.{ingredient_described}
@@ -34,29 +36,29 @@ use Rattle.ingredients.proofs.Standing.{table_stands}
 
 -- ---- what the number names
 
-as_table_lem : (list : List ℕ) (L : Located) → bind (ingredient_in list L) as_table ≡ some_table list (own_table L)
+as_table_lem : (list : List ℕ) (L : Prelude.Option Located) → bind (ingredient_in list L) as_table ≡ some_table list (own_table L)
 unfolding as_table some_table own_table table_in bind
-as_table_lem list (TableAt rows k levels_at entries_at) = refl
-as_table_lem list (MatrixAt rows k p entries_at) = refl
-as_table_lem list (GeneratorAt t n s widths_at w entries_at) = refl
-as_table_lem list NothingAt = refl
+as_table_lem list (Some (TableAt rows k levels_at entries_at)) = refl
+as_table_lem list (Some (MatrixAt rows k p entries_at)) = refl
+as_table_lem list (Some (GeneratorAt t n s widths_at w entries_at)) = refl
+as_table_lem list None = refl
 
-as_matrix_lem : (list : List ℕ) (L : Located) → bind (ingredient_in list L) as_matrix ≡ some_matrix list L
+as_matrix_lem : (list : List ℕ) (L : Prelude.Option Located) → bind (ingredient_in list L) as_matrix ≡ some_matrix list L
 unfolding as_matrix some_matrix bind
-as_matrix_lem list (TableAt rows k levels_at entries_at) = refl
-as_matrix_lem list (MatrixAt rows k p entries_at) = refl
-as_matrix_lem list (GeneratorAt t n s widths_at w entries_at) = refl
-as_matrix_lem list NothingAt = refl
+as_matrix_lem list (Some (TableAt rows k levels_at entries_at)) = refl
+as_matrix_lem list (Some (MatrixAt rows k p entries_at)) = refl
+as_matrix_lem list (Some (GeneratorAt t n s widths_at w entries_at)) = refl
+as_matrix_lem list None = refl
 
-as_generator_lem : (list : List ℕ) (L : Located) → bind (ingredient_in list L) as_generator ≡ some_generator list L
+as_generator_lem : (list : List ℕ) (L : Prelude.Option Located) → bind (ingredient_in list L) as_generator ≡ some_generator list L
 unfolding as_generator some_generator bind
-as_generator_lem list (TableAt rows k levels_at entries_at) = refl
-as_generator_lem list (MatrixAt rows k p entries_at) = refl
-as_generator_lem list (GeneratorAt t n s widths_at w entries_at) = refl
-as_generator_lem list NothingAt = refl
+as_generator_lem list (Some (TableAt rows k levels_at entries_at)) = refl
+as_generator_lem list (Some (MatrixAt rows k p entries_at)) = refl
+as_generator_lem list (Some (GeneratorAt t n s widths_at w entries_at)) = refl
+as_generator_lem list None = refl
 
 -- a house table, or else one of the list
-house_first : (list : List ℕ) (n : ℕ) (L : Located) (b : Bool) → (cond b (some (house_of n)) none or_else some_table list (own_table L)) ≡ some_table list (cond b (House n) (own_table L))
+house_first : (list : List ℕ) (n : ℕ) (L : Prelude.Option Located) (b : Bool) → (cond b (some (house_of n)) none or_else some_table list (own_table L)) ≡ some_table list (cond b (House n) (own_table L))
 unfolding some_table table_in
 house_first list n L true = refl
 house_first list n L false = refl
@@ -155,13 +157,13 @@ no_table_limits list =
 
 module _ (list : List ℕ) (o : Order) (reads : Reads list o) (range : EntriesInRange o) (i : ℕ) (h : 1 ≤ i) where
   -- by what the look-up finds
-  own_known : (L : Located) → ingredient_at (read_order list) i ≡ L → Legible list (own_table L) × TableLimits (table_in list (own_table L))
+  own_known : (L : Prelude.Option Located) → ingredient_at (read_order list) i ≡ L → Legible list (own_table L) × TableLimits (table_in list (own_table L))
   unfolding own_table Legible
-  own_known (TableAt rows k levels_at entries_at) e =
+  own_known (Some (TableAt rows k levels_at entries_at)) e =
       let s = table_stands list o reads range i h e in (own_legible s, own_limits s)
-  own_known (MatrixAt rows k p entries_at) e = (tt, no_table_limits list)
-  own_known (GeneratorAt t n s widths_at w entries_at) e = (tt, no_table_limits list)
-  own_known NothingAt e = (tt, no_table_limits list)
+  own_known (Some (MatrixAt rows k p entries_at)) e = (tt, no_table_limits list)
+  own_known (Some (GeneratorAt t n s widths_at w entries_at)) e = (tt, no_table_limits list)
+  own_known None e = (tt, no_table_limits list)
 
   named_known : (low high : Bool) → leb 101 i ≡ low → leb i 104 ≡ high → Legible list (cond (low && high) (House i) (own_table (ingredient_at (read_order list) i))) × TableLimits (table_in list (cond (low && high) (House i) (own_table (ingredient_at (read_order list) i))))
   unfolding Legible table_in

@@ -1,5 +1,7 @@
 -- An ingredient that a look-up finds stands in the list: what was read of it are the numbers at its places.
 -- Assumes nothing.
+use Rattle.std.specs.Prelude
+use Rattle.std.specs.Prelude.{Some, None}
 use mathlib.Core.Path.{◌≡◌, refl, sym, ◌∙◌}
 use mathlib.Core.List.{List}
 use mathlib.Core.Option.{Option, none, some, none-ne-some}
@@ -18,7 +20,7 @@ use Rattle.order.specs.Order.{Ingredient, table, matrix, generator, Order, total
 use Rattle.order.specs.Grammar.{read_order, Reads}
 use Rattle.order.specs.Answers.{located}
 use Rattle.order.specs.declared.Located.{Located}
-use Rattle.order.specs.declared.Located.TheVariants.{Table as TableAt, Matrix as MatrixAt, Generator as GeneratorAt, Missing}
+use Rattle.order.specs.declared.Located.TheVariants.{Table as TableAt, Matrix as MatrixAt, Generator as GeneratorAt}
 use Rattle.order.proofs.Segment.{Segment, segment_fits}
 use Rattle.order.proofs.OrderLaw.{reads_iff}
 use Rattle.sheets.proofs.Ingredients.{InBounds, all_at, width_total}
@@ -26,14 +28,14 @@ use Rattle.ingredients.specs.Standing.{TableStands, MatrixStands, GeneratorStand
 use Rattle.ingredients.proofs.Parts.{part_length, part_at, part_bytes, part_all}
 
 -- the numbers of an ingredient lie within the list, and a generator's widths add up to the length of its rows
-abbrev Within : List ℕ → Located → Type 0
-Within list (TableAt rows columns levels_at entries_at) = (levels_at + columns ≤ length list) × (entries_at + rows * columns ≤ length list)
-Within list (MatrixAt rows columns p entries_at) = entries_at + rows * columns ≤ length list
-Within list (GeneratorAt t n s widths_at w entries_at) =
+abbrev Within : List ℕ → Prelude.Option Located → Type 0
+Within list (Some (TableAt rows columns levels_at entries_at)) = (levels_at + columns ≤ length list) × (entries_at + rows * columns ≤ length list)
+Within list (Some (MatrixAt rows columns p entries_at)) = entries_at + rows * columns ≤ length list
+Within list (Some (GeneratorAt t n s widths_at w entries_at)) =
     (widths_at + n ≤ length list) × (entries_at + t * w ≤ length list) × (w ≡ total (take n (drop widths_at list)))
-Within list Missing = Unit {0}
+Within list None = Unit {0}
 
-within_found : {list : List ℕ} {place after : ℕ} (g : Ingredient) → IngredientLimits g → Segment list place (written_ingredient g) after → Within list (located (place + 3) g)
+within_found : {list : List ℕ} {place after : ℕ} (g : Ingredient) → IngredientLimits g → Segment list place (written_ingredient g) after → Within list (Some (located (place + 3) g))
 within_found (table rows levels entries) h s =
     let fits = segment_fits s (omega arith) in (
       omega (arith, length-append levels entries),
@@ -47,11 +49,11 @@ within_found (generator t s widths entries) h seg =
       rw (widths_stand t s widths entries seg),
     )
 
-within_none : (list : List ℕ) (L : Located) → ingredient_in list L ≡ none → Within list L
-within_none list (TableAt rows columns levels_at entries_at) e = absurd (none-ne-some _ (sym e))
-within_none list (MatrixAt rows columns p entries_at) e = absurd (none-ne-some _ (sym e))
-within_none list (GeneratorAt t n s widths_at w entries_at) e = absurd (none-ne-some _ (sym e))
-within_none list Missing e = tt
+within_none : (list : List ℕ) (L : Prelude.Option Located) → ingredient_in list L ≡ none → Within list L
+within_none list (Some (TableAt rows columns levels_at entries_at)) e = absurd (none-ne-some _ (sym e))
+within_none list (Some (MatrixAt rows columns p entries_at)) e = absurd (none-ne-some _ (sym e))
+within_none list (Some (GeneratorAt t n s widths_at w entries_at)) e = absurd (none-ne-some _ (sym e))
+within_none list None e = tt
 
 module _ (list : List ℕ) (o : Order) (reads : Reads list o) where
   located_within : (k : ℕ) → Within list (ingredient_at (read_order list) (suc k))
@@ -71,10 +73,10 @@ module _ (list : List ℕ) (o : Order) (reads : Reads list o) where
           all_at InBounds o.ingredients range k here,
         )
 
-    pub table_stands : (i : ℕ) → 1 ≤ i → {rows columns levels_at entries_at : ℕ} → ingredient_at (read_order list) i ≡ TableAt rows columns levels_at entries_at → TableStands list rows columns levels_at entries_at
+    pub table_stands : (i : ℕ) → 1 ≤ i → {rows columns levels_at entries_at : ℕ} → ingredient_at (read_order list) i ≡ Some (TableAt rows columns levels_at entries_at) → TableStands list rows columns levels_at entries_at
     table_stands zero h e = absurd (omega arith)
     table_stands (suc k) h {rows} {columns} {levels_at} {entries_at} e =
-        let within : Within list (TableAt rows columns levels_at entries_at) = rw e at (located_within k) in
+        let within : Within list (Some (TableAt rows columns levels_at entries_at)) = rw e at (located_within k) in
         let known = located_known k (table rows (take columns (drop levels_at list)) (take (rows * columns) (drop entries_at list))) (rw e) in
         let many = part_length list levels_at columns within.0 in
         let columns_known : Between 1 128 columns = rw many at known.0.1 in
@@ -88,10 +90,10 @@ module _ (list : List ℕ) (o : Order) (reads : Reads list o) where
           entry_below = λ q h. rw (part_at list entries_at (rows * columns) within.1 q h, many, part_at list levels_at columns within.0 (q % columns) (mod-lt q columns_known.0)) at (known.1 q (rw (part_length list entries_at (rows * columns) within.1) h));
         }
 
-    pub matrix_stands : (i : ℕ) → 1 ≤ i → {rows columns p entries_at : ℕ} → ingredient_at (read_order list) i ≡ MatrixAt rows columns p entries_at → MatrixStands list rows columns p entries_at
+    pub matrix_stands : (i : ℕ) → 1 ≤ i → {rows columns p entries_at : ℕ} → ingredient_at (read_order list) i ≡ Some (MatrixAt rows columns p entries_at) → MatrixStands list rows columns p entries_at
     matrix_stands zero h e = absurd (omega arith)
     matrix_stands (suc k) h {rows} {columns} {p} {entries_at} e =
-        let within : Within list (MatrixAt rows columns p entries_at) = rw e at (located_within k) in
+        let within : Within list (Some (MatrixAt rows columns p entries_at)) = rw e at (located_within k) in
         let known = located_known k (matrix rows columns p (take (rows * columns) (drop entries_at list))) (rw e) in
         record {
           short = ((reads_iff list o).0 reads).0;
@@ -102,10 +104,10 @@ module _ (list : List ℕ) (o : Order) (reads : Reads list o) where
           entry_below = λ q h. rw (part_at list entries_at (rows * columns) within q h) at (known.1 q (rw (part_length list entries_at (rows * columns) within) h));
         }
 
-    pub generator_stands : (i : ℕ) → 1 ≤ i → {t n s widths_at w entries_at : ℕ} → ingredient_at (read_order list) i ≡ GeneratorAt t n s widths_at w entries_at → GeneratorStands list t n s widths_at w entries_at
+    pub generator_stands : (i : ℕ) → 1 ≤ i → {t n s widths_at w entries_at : ℕ} → ingredient_at (read_order list) i ≡ Some (GeneratorAt t n s widths_at w entries_at) → GeneratorStands list t n s widths_at w entries_at
     generator_stands zero h e = absurd (omega arith)
     generator_stands (suc k) h {t} {n} {s} {widths_at} {w} {entries_at} e =
-        let within : Within list (GeneratorAt t n s widths_at w entries_at) = rw e at (located_within k) in
+        let within : Within list (Some (GeneratorAt t n s widths_at w entries_at)) = rw e at (located_within k) in
         let known = located_known k (generator t s (take n (drop widths_at list)) (take (t * w) (drop entries_at list))) (rw e) in
         let many = part_length list widths_at n within.0 in
         record {

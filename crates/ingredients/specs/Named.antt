@@ -1,5 +1,6 @@
 -- What a number names, as the list has it: document 01, "The order". Numbers 1 to q name the ingredients of the list, 101 to 104 the house tables.
-use Rattle.std.specs.Prelude.{cond, ◌&&◌, List, [], ℕ, ◌+◌, ◌*◌, ◌≤◌, leb, length, take, drop}
+use Rattle.std.specs.Prelude
+use Rattle.std.specs.Prelude.{cond, ◌&&◌, List, [], ℕ, ◌+◌, ◌*◌, ◌≤◌, leb, length, take, drop, Some, None}
 use Rattle.std.proofs.Math.Option.{Option, none, some}
 use Rattle.places.specs.Places.{ingredient_at}
 use Rattle.buffers.specs.Put.{Bytes}
@@ -10,16 +11,16 @@ use Rattle.house.specs.House.{HouseNumber, house_of}
 use Rattle.order.specs.Order.{Order}
 use Rattle.order.specs.Reader.{Parsed}
 use Rattle.order.specs.declared.Located.{Located}
-use Rattle.order.specs.declared.Located.TheVariants.{Table as TableAt, Matrix as MatrixAt, Generator as GeneratorAt, Missing as NothingAt}
+use Rattle.order.specs.declared.Located.TheVariants.{Table as TableAt, Matrix as MatrixAt, Generator as GeneratorAt}
 use Rattle.ingredients.specs.declared.named.NamedTable.{NamedTable}
 use Rattle.ingredients.specs.declared.named.NamedTable.TheVariants.{Own, House, Missing}
 
 -- a table of the list, and no other ingredient
-unfoldable pub own_table : Located → NamedTable
-own_table (TableAt rows columns levels_at entries_at) = Own rows columns levels_at entries_at
-own_table (MatrixAt rows columns p entries_at) = Missing
-own_table (GeneratorAt t n s widths_at width entries_at) = Missing
-own_table NothingAt = Missing
+unfoldable pub own_table : Prelude.Option Located → NamedTable
+own_table (Some (TableAt rows columns levels_at entries_at)) = Own rows columns levels_at entries_at
+own_table (Some (MatrixAt rows columns p entries_at)) = Missing
+own_table (Some (GeneratorAt t n s widths_at width entries_at)) = Missing
+own_table None = Missing
 
 -- what number i names
 unfoldable pub named_table : Parsed Order → ℕ → NamedTable
@@ -57,14 +58,14 @@ generator_in list t n s widths_at width entries_at =
     generator_of (take (t * width) (drop entries_at list)) t s (take n (drop widths_at list))
 
 -- the matrix, and the generator, that a look-up in the list finds; other ingredients are none
-unfoldable pub some_matrix : List ℕ → Located → Option Matrix
-some_matrix list (TableAt rows columns levels_at entries_at) = none
-some_matrix list (MatrixAt rows columns p entries_at) = some (matrix_in list rows columns p entries_at)
-some_matrix list (GeneratorAt t n s widths_at width entries_at) = none
-some_matrix list NothingAt = none
+unfoldable pub some_matrix : List ℕ → Prelude.Option Located → Option Matrix
+some_matrix list (Some (TableAt rows columns levels_at entries_at)) = none
+some_matrix list (Some (MatrixAt rows columns p entries_at)) = some (matrix_in list rows columns p entries_at)
+some_matrix list (Some (GeneratorAt t n s widths_at width entries_at)) = none
+some_matrix list None = none
 
-unfoldable pub some_generator : List ℕ → Located → Option Generator
-some_generator list (TableAt rows columns levels_at entries_at) = none
-some_generator list (MatrixAt rows columns p entries_at) = none
-some_generator list (GeneratorAt t n s widths_at width entries_at) = some (generator_in list t n s widths_at width entries_at)
-some_generator list NothingAt = none
+unfoldable pub some_generator : List ℕ → Prelude.Option Located → Option Generator
+some_generator list (Some (TableAt rows columns levels_at entries_at)) = none
+some_generator list (Some (MatrixAt rows columns p entries_at)) = none
+some_generator list (Some (GeneratorAt t n s widths_at width entries_at)) = some (generator_in list t n s widths_at width entries_at)
+some_generator list None = none

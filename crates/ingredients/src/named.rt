@@ -29,31 +29,19 @@ pub fn table_named(list: &[u16], i: usize) -> NamedTable
         return NamedTable::House { number: i };
     }
     match ingredient_at(list, i) {
-        Located::Table {
-            rows,
-            columns,
-            levels_at,
-            entries_at,
-        } => NamedTable::Own {
+        Some(
+            Located::Table {
+                rows,
+                columns,
+                levels_at,
+                entries_at,
+            },
+        ) => NamedTable::Own {
             rows,
             columns,
             levels_at,
             entries_at,
         },
-        Located::Matrix {
-            rows: _,
-            columns: _,
-            p: _,
-            entries_at: _,
-        } => NamedTable::Missing,
-        Located::Generator {
-            t: _,
-            n: _,
-            s: _,
-            widths_at: _,
-            width: _,
-            entries_at: _,
-        } => NamedTable::Missing,
-        Located::Missing => NamedTable::Missing,
+        _ => NamedTable::Missing,
     }
 }

@@ -8,8 +8,7 @@ use lib.ListN.{length, take}
 use Rattle.buffers.specs.Put.{Put}
 use Rattle.buffers.proofs.Puts.{put_length, put_front}
 use Rattle.words.specs.Words.{Reading}
-use Rattle.words.specs.Scanner.{scanned_reading}
-use Rattle.words.specs.declared.Scanned.{Scanned}
+use Rattle.words.specs.Scanner.{Scanned, scanned_reading}
 use Rattle.words.proofs.Following.{refused_stays}
 use Rattle.input.specs.Input.{text, ScannedInput}
 use Rattle.input.specs.Answering.{AnsweringBy}

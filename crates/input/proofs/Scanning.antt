@@ -5,17 +5,15 @@ use mathlib.Core.List.{List, [], ◌∷◌, ◌++◌, append-nil, append_assoc, 
 use Prim.Native.Nat.{ℕ}
 use native.Mathlib.Omega.{arith}
 use lib.ListN.{length}
+use Rattle.std.specs.declared.ops.ControlFlow.TheVariants.{Continue, Break}
 use Rattle.words.specs.Words.{refused, reading}
-use Rattle.words.specs.Scanner.{Progress, advanced, finished, scanned_reading, Unfinished}
+use Rattle.words.specs.Scanner.{Scanned, Progress, advanced, finished, scanned_reading, Unfinished}
 use Rattle.words.specs.declared.Scan.{Scan}
 use Rattle.words.specs.declared.Scan.TheVariants.{Between, Inside, Failed}
-use Rattle.words.specs.declared.Scanned.{Scanned}
 use Rattle.words.proofs.Following.{refused_stays}
 use Rattle.words.proofs.Scanning.{any_cut}
 use Rattle.words.proofs.Bounds.{sound_start, sound_piece, sound_finish, refused_failed}
-use Rattle.input.specs.declared.Next.{Next}
-use Rattle.input.specs.declared.Next.TheVariants.{Read, Answer}
-use Rattle.input.specs.Input.{onward, after_read, ScannedInput}
+use Rattle.input.specs.Input.{Next, onward, after_read, ScannedInput}
 
 -- Some pieces of a text were scanned from its start, and no word of it is refused so far.
 pub record ScannedPart (before : List ℕ) (state : Scan) (list : List ℕ) : Type 0 where
@@ -25,7 +23,7 @@ pub record ScannedPart (before : List ℕ) (state : Scan) (list : List ℕ) : Ty
   pub reached : (state, list) ≡ foldl advanced (Between 0, before) pieces
 
 between_failed : {state : Scan} {count place : ℕ} → state ≡ Between count → state ≡ Failed place → ⊥
-between_failed e f = let z : ◌≡◌ {A = ℕ} 0 1 = cc in omega arith
+between_failed e f = cc
 
 pub underway_start : {state : Scan} (list : List ℕ) → state ≡ Between 0 → ScannedPart list state list
 underway_start list e =
@@ -37,25 +35,25 @@ underway_start list e =
     }
 
 -- What comes after a read: the scanner goes on from where it stands, and has not failed; or the text is finished.
-read_answer : {state : Scan} {answer : Scanned} → Read state ≡ Answer answer → ⊥
-read_answer e = let z : ◌≡◌ {A = ℕ} 0 1 = cc in omega arith
+read_answer : {state : Scan} {answer : Scanned} → Continue state ≡ Break answer → ⊥
+read_answer e = cc
 
-answer_same : {a b : Scanned} → Answer a ≡ Answer b → a ≡ b
+answer_same : {a b : Scanned} → ◌≡◌ {A = Next} (Break a) (Break b) → a ≡ b
 answer_same e = cc
 
-onward_read : (s : Scan) {next : Scan} → Read next ≡ onward s → (next ≡ s) × ((place : ℕ) → next ≡ Failed place → ⊥)
-onward_read (Between count) e = (cc, λ place f. (let z : ◌≡◌ {A = ℕ} 0 1 = cc in omega arith))
-onward_read (Inside count value) e = (cc, λ place f. (let z : ◌≡◌ {A = ℕ} 0 1 = cc in omega arith))
+onward_read : (s : Scan) {next : Scan} → Continue next ≡ onward s → (next ≡ s) × ((place : ℕ) → next ≡ Failed place → ⊥)
+onward_read (Between count) e = (cc, λ place f. (cc))
+onward_read (Inside count value) e = (cc, λ place f. (cc))
 onward_read (Failed place) e = absurd (read_answer e)
 
-onward_answer : (s : Scan) (list : List ℕ) {answer : Scanned} → Answer answer ≡ onward s → (answer, list) ≡ finished (s, list)
+onward_answer : (s : Scan) (list : List ℕ) {answer : Scanned} → Break answer ≡ onward s → (answer, list) ≡ finished (s, list)
 unfolding finished
 onward_answer (Between count) list e = absurd (read_answer (sym e))
 onward_answer (Inside count value) list e = absurd (read_answer (sym e))
 onward_answer (Failed place) list e = ap (λ (r : Scanned). (r, list)) (answer_same e)
 
 module _ (p : Progress) {list : List ℕ} where
-  read_on : (bytes : List ℕ) {next : Scan} → (Read next, list) ≡ after_read p bytes
+  read_on : (bytes : List ℕ) {next : Scan} → (Continue next, list) ≡ after_read p bytes
       → ((next, list) ≡ advanced p bytes) × ((place : ℕ) → next ≡ Failed place → ⊥)
   unfolding after_read
   read_on [] e = absurd (read_answer (ap (λ q. q.0) e))
@@ -63,7 +61,7 @@ module _ (p : Progress) {list : List ℕ} where
       let told = onward_read (advanced p (b ∷ bs)).0 (ap (λ q. q.0) e) in
       (ap₂ (λ (s : Scan) (l : List ℕ). (s, l)) told.0 (ap (λ q. q.1) e), told.1)
 
-  read_ends : (bytes : List ℕ) {answer : Scanned} → (Answer answer, list) ≡ after_read p bytes → (answer, list) ≡ finished (advanced p bytes)
+  read_ends : (bytes : List ℕ) {answer : Scanned} → (Break answer, list) ≡ after_read p bytes → (answer, list) ≡ finished (advanced p bytes)
   unfolding after_read advanced
   read_ends [] e = ap₂ (λ (r : Scanned) (l : List ℕ). (r, l)) (answer_same (ap (λ q. q.0) e)) (ap (λ q. q.1) e)
   read_ends (b ∷ bs) {answer} e =
@@ -72,9 +70,9 @@ module _ (p : Progress) {list : List ℕ} where
 
 -- The two cases of a read, as the code goes through them.
 module _ (p : Progress) {list : List ℕ} where
-  pub read_none : (bytes : List ℕ) {answer : Scanned} → length bytes ≡ 0 → (answer, list) ≡ finished p → (Answer answer, list) ≡ after_read p bytes
+  pub read_none : (bytes : List ℕ) {answer : Scanned} → length bytes ≡ 0 → (answer, list) ≡ finished p → (Break answer, list) ≡ after_read p bytes
   unfolding after_read
-  read_none [] h e = ap (λ (r : Scanned × List ℕ). (Answer r.0, r.1)) e
+  read_none [] h e = ap (λ (r : Scanned × List ℕ). (Break r.0, r.1)) e
   read_none (b ∷ bs) h e = absurd (omega arith)
 
   pub read_some : (bytes : List ℕ) {state : Scan} {next : Next} → (length bytes ≡ 0 → ⊥) → (state, list) ≡ advanced p bytes → onward state ≡ next
@@ -94,7 +92,7 @@ module _ {before : List ℕ} {state : Scan} {list : List ℕ} (so_far : ScannedP
       ap (λ (p : Progress). advanced p bytes) so_far.reached
       ∙ sym (foldl-append advanced (Between 0, before) so_far.pieces (bytes ∷ []))
 
-  pub underway_read : (bytes : List ℕ) {next : Scan} {list' : List ℕ} → (Read next, list') ≡ after_read (state, list) bytes → ScannedPart before next list'
+  pub underway_read : (bytes : List ℕ) {next : Scan} {list' : List ℕ} → (Continue next, list') ≡ after_read (state, list) bytes → ScannedPart before next list'
   underway_read bytes e =
       let told = read_on (state, list) bytes e in
       record {
@@ -125,7 +123,7 @@ module _ {before : List ℕ} {state : Scan} {list : List ℕ} (so_far : ScannedP
           suffices = λ place is rest. refused_stays _ rest (sym reads ∙ ap (λ (r : Scanned). scanned_reading (r, list')) is);
         }
 
-    pub input_answered : (bytes : List ℕ) {answer : Scanned} {list' : List ℕ} → (Answer answer, list') ≡ after_read (state, list) bytes → ScannedInput answer list'
+    pub input_answered : (bytes : List ℕ) {answer : Scanned} {list' : List ℕ} → (Break answer, list') ≡ after_read (state, list) bytes → ScannedInput answer list'
     input_answered bytes e = finished_input bytes (read_ends (state, list) bytes e)
 
     pub input_finished : {answer : Scanned} {list' : List ℕ} → (answer, list') ≡ finished (state, list) → ScannedInput answer list'

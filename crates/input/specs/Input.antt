@@ -1,24 +1,26 @@
 -- What is read from standard input. Nothing can say which bytes a read gives, so this says that there is such a text.
 use Rattle.std.specs.Prelude.{◌≡◌, ℕ}
+use Rattle.std.specs.declared.ops.ControlFlow.{ControlFlow}
+use Rattle.std.specs.declared.ops.ControlFlow.TheVariants.{Continue, Break}
 use mathlib.Core.List.{List, [], ◌∷◌, ◌++◌, flatten}
 use Rattle.words.specs.Words.{refused, reading}
-use Rattle.words.specs.Scanner.{Progress, advanced, finished, scanned_reading, Ended}
+use Rattle.words.specs.Scanner.{Scanned, refused_at, Progress, advanced, finished, scanned_reading, Ended}
 use Rattle.words.specs.declared.Scan.{Scan}
 use Rattle.words.specs.declared.Scan.TheVariants.{Between, Inside, Failed}
-use Rattle.words.specs.declared.Scanned.{Scanned}
-use Rattle.words.specs.declared.Scanned.TheVariants.{Refused}
-use Rattle.input.specs.declared.Next.{Next}
-use Rattle.input.specs.declared.Next.TheVariants.{Read, Answer}
+
+-- What comes after a read: another one, from where the scanner stands, or the answer.
+abbrev pub Next : Type 0
+Next = ControlFlow Scanned Scan
 
 -- A state that the scanner has reached asks for another read, or, where a word is refused, for none.
 abbrev pub onward : Scan → Next
-onward (Between count) = Read (Between count)
-onward (Inside count value) = Read (Inside count value)
-onward (Failed place) = Answer (Refused place)
+onward (Between count) = Continue (Between count)
+onward (Inside count value) = Continue (Inside count value)
+onward (Failed place) = Break (refused_at place)
 
 -- After a read that gave these bytes. Where it gave none, the text has ended.
 unfoldable pub after_read : Progress → List ℕ → Next × List ℕ
-after_read p [] = (Answer (finished p).0, (finished p).1)
+after_read p [] = (Break (finished p).0, (finished p).1)
 after_read p (byte ∷ bytes) = (onward (advanced p (byte ∷ bytes)).0, (advanced p (byte ∷ bytes)).1)
 
 -- What the reads gave, one after the other. No word was refused before the last of them: each was called for.
@@ -35,4 +37,4 @@ pub record ScannedInput (answer : Scanned) (list : List ℕ) : Type 0 where
   pub ended : Ended 32768 answer list
   pub input : Input
   pub reads : scanned_reading (answer, list) ≡ reading (text input)
-  pub suffices : (place : ℕ) → answer ≡ Refused place → (rest : List ℕ) → reading (text input ++ rest) ≡ refused place
+  pub suffices : (place : ℕ) → answer ≡ refused_at place → (rest : List ℕ) → reading (text input ++ rest) ≡ refused place

@@ -5,35 +5,23 @@ ghost use Rattle.std.specs.Prelude.{◌≡◌, ◌≤◌, length};
 ghost use Rattle.input.specs.Input.{after_read, ScannedInput};
 
 use std::io::Read;
-use words::{Scan, Scanned};
-
-// What comes after a read: another one, from where the scanner stands, or the answer.
-#[derive(Clone, Copy)]
-enum Next {
-    Read(Scan),
-    Answer(Scanned),
-}
+use std::ops::ControlFlow;
+use words::{BadWord, Scan};
 
 // The numbers of standard input, which is read in pieces, up to its end or to a word that is refused; a read that fails ends it too. A proved loop
-// has to end, and nothing says that the input does, so the reads are counted down from a number that no input reaches.
-pub fn scan_input<R: Read>(reader: &mut R, list: &mut [u16; 32768]) -> Scanned
+// has to end, and nothing says that the input does, so the reads are counted up to a number that no input reaches.
+pub fn scan_input<R: Read>(reader: &mut R, list: &mut [u16; 32768]) -> Result<usize, BadWord>
     requires { length list.old ≡ 32768 }
     ensures { ScannedInput result list.new }
 {
     let mut piece = [0u8; 4096];
     let mut state = scanning::start();
-    let mut reads_left = u64::MAX;
-    while reads_left > 0 {
+    for _ in 0..u64::MAX {
         let n = bytes_read(reader, &mut piece);
         match after_read(state, &piece[..n], list) {
-            Next::Read(next) => {
-                state = next;
-            }
-            Next::Answer(scanned) => {
-                return scanned;
-            }
+            ControlFlow::Continue(next) => state = next,
+            ControlFlow::Break(answer) => return answer,
         }
-        reads_left -= 1;
     }
     scanning::finish(state, list)
 }
@@ -42,23 +30,24 @@ pub fn scan_input<R: Read>(reader: &mut R, list: &mut [u16; 32768]) -> Scanned
 fn bytes_read<R: Read>(reader: &mut R, piece: &mut [u8]) -> usize
     ensures { result ≤ length piece.old }
 {
-    match reader.read(piece) {
-        Ok(n) => n,
-        Err(_) => 0,
-    }
+    reader.read(piece).unwrap_or(0)
 }
 
 // What comes after a read that gave these bytes: none end the text, and a word that is refused ends the reading.
-fn after_read(state: Scan, bytes: &[u8], list: &mut [u16; 32768]) -> Next
+fn after_read(
+    state: Scan,
+    bytes: &[u8],
+    list: &mut [u16; 32768],
+) -> ControlFlow<Result<usize, BadWord>, Scan>
     ensures { (result, list.new) ≡ after_read (state, list.old) bytes.now }
 {
     if bytes.len() == 0 {
-        return Next::Answer(scanning::finish(state, list));
+        return ControlFlow::Break(scanning::finish(state, list));
     }
     let reached = scanning::piece(state, bytes, list);
     match reached {
-        Scan::Between { count } => Next::Read(Scan::Between { count }),
-        Scan::Inside { count, value } => Next::Read(Scan::Inside { count, value }),
-        Scan::Failed { place } => Next::Answer(Scanned::Refused { place }),
+        Scan::Between { count } => ControlFlow::Continue(Scan::Between { count }),
+        Scan::Inside { count, value } => ControlFlow::Continue(Scan::Inside { count, value }),
+        Scan::Failed { place } => ControlFlow::Break(Err(BadWord { place })),
     }
 }

@@ -11,13 +11,9 @@ pub fn difference(more: usize, less: usize) -> i64
     more as i64 - less as i64
 }
 
-// The size of a number, its sign ignored. The least i64 has no opposite, so a negative number's is had as -1 - value, to which 1 is added after the
-// cast.
+// The size of a number, its sign ignored.
 pub fn magnitude(value: i64) -> usize
     ensures { result ≡ nat_abs value }
 {
-    if value < 0 {
-        return (-1 - value) as usize + 1;
-    }
-    value as usize
+    value.unsigned_abs() as usize
 }

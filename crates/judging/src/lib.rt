@@ -15,9 +15,9 @@ use printing::plan_and_put;
 use record_texts::{Judged, Lengths};
 use report::put_refused;
 use sheets::answer::{Answer, Refusal};
-use stored_calls::{least, long_number_at};
+use stored_calls::long_number_at;
 use whole_text::scan;
-use words::Scanned;
+use words::BadWord;
 
 // The lengths that some numbers give.
 fn lengths_in(list: &[u16]) -> Lengths
@@ -31,25 +31,27 @@ fn lengths_in(list: &[u16]) -> Lengths
 }
 
 // The lengths that a line gives.
+#[tactic(auto, using(whole_text::proofs::Whole::scanned, record_texts::proofs::Judging::lengths_read_lem))]
 pub fn lengths_of(line: &[u8]) -> Lengths
     ensures { result ≡ lengths_given line.now }
 {
     let mut list = [0u16; 32768];
     match scan(line, &mut list) {
-        Scanned::Numbers { count } => lengths_in(&list[..count]),
-        Scanned::Refused { place: _ } => lengths_in(&list[..0]),
+        Ok(count) => lengths_in(&list[..count]),
+        Err(_) => lengths_in(&list[..0]),
     }
 }
 
 // A record: an order up to "=", the end of that line, and what is printed of it.
+#[tactic(auto, using(byte_texts::proofs::Comparing::first_most))]
 pub fn judge(bytes: &[u8], lengths: Lengths) -> Judged
     ensures { result ≡ judged bytes.now lengths }
 {
     let end = find(bytes, b'=');
     let mut list = [0u16; 32768];
     match scan(&bytes[..end], &mut list) {
-        Scanned::Numbers { count } => judge_list(&list[..count], &bytes[end..], lengths),
-        Scanned::Refused { place } => judge_unread(place, &bytes[end..]),
+        Ok(count) => judge_list(&list[..count], &bytes[end..], lengths),
+        Err(BadWord { place }) => judge_unread(place, &bytes[end..]),
     }
 }
 
@@ -88,9 +90,9 @@ fn judge_list(list: &[u16], stored: &[u8], lengths: Lengths) -> Judged
     let mut table = [170u8; 66048];
     let mut levels = [187u8; 256];
     let mut scratch = [204u8; 66048];
-    let a = least(lengths.table, 66048);
-    let b = least(lengths.levels, 256);
-    let c = least(lengths.scratch, 66048);
+    let a = lengths.table.min(66048);
+    let b = lengths.levels.min(256);
+    let c = lengths.scratch.min(66048);
     judge_in(
         list,
         stored,

@@ -1,6 +1,7 @@
 -- A step that stands in the list: what it comes to is asked of its operands, which lie within the list and keep the limits of an order; and the
 -- table that an operand names is what the look-up finds.
 -- Assumes nothing.
+use Rattle.std.specs.Prelude.{Some, None}
 use mathlib.Core.Path.{◌≡◌, refl, sym, ◌∙◌, ap}
 use mathlib.Core.Logic.{◌⊎◌, ⊎_elim}
 use mathlib.Core.List.{List}
@@ -16,7 +17,7 @@ use Rattle.order.specs.Answers.{kind_of}
 use Rattle.order.proofs.Segment.{Segment, segment_in}
 use Rattle.order.proofs.OrderLaw.{reads_iff}
 use Rattle.places.specs.Places.{step_at, operands_of, step_in}
-use Rattle.places.specs.declared.Placed.TheVariants.{Step as StepAt, Missing as NoStep}
+use Rattle.order.specs.declared.Stage.{Stage}
 use Rattle.places.proofs.Stands.{step_stands, step_described}
 use Rattle.sheets.specs.Ingredients.{table_named}
 use Rattle.sheets.specs.Steps.{Outcome, first_step, later_step}
@@ -36,8 +37,11 @@ operand_there (MERGE p cs) = omega arith
 operand_there (SPLIT c i) = omega arith
 operand_there (CROSS ds k h) = omega arith
 
-not_missing : (kind at : ℕ) → NoStep ≡ StepAt kind at → ⊥
-not_missing kind at e = let z : ◌≡◌ {A = ℕ} 0 1 = cc in omega arith
+not_missing : (s : Stage) → None ≡ Some s → ⊥
+not_missing s e = let z : ◌≡◌ {A = ℕ} 0 1 = cc in omega arith
+
+same_stage : {s s' : Stage} → Some s ≡ Some s' → s ≡ s'
+same_stage e = cc
 
 module _ {list : List ℕ} (readable : Readable list) where
   open readable use {order as o, reads}
@@ -48,7 +52,7 @@ module _ {list : List ℕ} (readable : Readable list) where
   -- ---- steps
 
   -- there is no step number 0
-  step_zero : step_at (read_order list) 0 ≡ NoStep
+  step_zero : step_at (read_order list) 0 ≡ None
   unfolding step_at
   step_zero = rw reads
 
@@ -59,13 +63,13 @@ module _ {list : List ℕ} (readable : Readable list) where
       → C
   stands_step {C} {kind} {at} stands found = go stands.number stands.found
     where
-      go : (n : ℕ) → step_at (read_order list) n ≡ StepAt kind at → C
-      go zero e = absurd (not_missing kind at (sym step_zero ∙ e))
+      go : (n : ℕ) → step_at (read_order list) n ≡ Some (record { kind = kind; operands_at = at }) → C
+      go zero e = absurd (not_missing (record { kind = kind; operands_at = at }) (sym step_zero ∙ e))
       go (suc k) e =
           let here : get_elem? o.steps k ≡ some (operands_of list kind at) = sym (step_described list o reads k) ∙ ap (step_in list) e in
           step_stands list o reads k (operands_of list kind at) here λ place after same limits s.
-          let both : StepAt kind at ≡ StepAt (kind_of (operands_of list kind at)) (place + 1) = sym e ∙ same in
-          found place after (cc) (cc) limits s
+          let both = same_stage (sym e ∙ same) in
+          found place after (ap (λ t. t.kind) both) (ap (λ t. t.operands_at) both) limits s
 
   -- its operands are within their limits
   pub operands_limits : {kind at : ℕ} → Stands list kind at → StepLimits (operands_of list kind at)

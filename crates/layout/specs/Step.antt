@@ -1,12 +1,11 @@
 -- What the functions that carry out a step take and leave: document 01, "Steps by kind" and questions 5 to 8, on the list and the buffers.
-use Rattle.std.specs.Prelude.{◌≡◌, List, ℕ, ◌≤◌}
+use Rattle.std.specs.Prelude.{◌≡◌, List, ℕ, ◌≤◌, Some}
 use Rattle.counting.specs.Table.{Table, columns}
 use Rattle.order.specs.Order.{Order}
 use Rattle.order.specs.Reader.{Parsed, value, refused as unread}
 use Rattle.order.specs.Grammar.{read_order, Reads}
 use Rattle.order.specs.Range.{EntriesInRange}
 use Rattle.places.specs.Places.{step_at, operands_of}
-use Rattle.places.specs.declared.Placed.TheVariants.{Step as StepAt}
 use Rattle.step_tables.specs.Sheet.{Sound, SmallEnough}
 use Rattle.spare.specs.Spare.{spare}
 use Rattle.sheets.specs.Steps.{Outcome, filled, refused, first_step, later_step}
@@ -25,7 +24,7 @@ pub record Readable (list : List ℕ) : Type 0 where
 -- a step of the list is of this kind and has its operands from place at on
 pub record Stands (list : List ℕ) (kind at : ℕ) : Type 0 where
   pub number : ℕ
-  pub found : step_at (read_order list) number ≡ StepAt kind at
+  pub found : step_at (read_order list) number ≡ Some (record { kind = kind; operands_at = at })
 
 -- what the order that the list reads as comes to
 unfoldable pub in_order : List ℕ → (Order → Outcome) → Outcome

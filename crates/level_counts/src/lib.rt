@@ -19,11 +19,11 @@ pub fn levels_deviation(
     second: usize,
     n: usize,
     counters: &mut [u16],
-) -> Deviation
+) -> Option<Deviation>
     requires keyed { Keyed cells.now runs columns first second n (levels_key cells.now columns first weight second) }
     requires cleared { Cleared counters.old }
     ensures value { result ≡ as_deviation (keys_deviation n runs (levels_key cells.now columns first weight second)) }
-    ensures cleared_2 { result ≡ Deviation.Nowhere → Cleared counters.new }
+    ensures cleared_2 { result ≡ None → Cleared counters.new }
 {
     tally_levels(cells, runs, columns, first, weight, second, counters);
     first_deviation(counters, n, runs)
@@ -62,12 +62,8 @@ fn tally_levels(
     requires cleared { Cleared counters.old }
     ensures { Tallied counters.new runs (levels_key cells.now columns first weight second) }
 {
-    let mut start = 0;
-    let mut run = 0;
-    while run < runs {
-        let key = cells[start + first] as usize * weight + cells[start + second] as usize;
+    for run in cells[..runs * columns].chunks_exact(columns) {
+        let key = run[first] as usize * weight + run[second] as usize;
         counters[key] += 1;
-        start += columns;
-        run += 1;
     }
 }

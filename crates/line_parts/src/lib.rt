@@ -17,10 +17,8 @@ pub fn put_column_numbers(buf: &mut [u8], at: usize, first: usize, end: usize) -
     ensures { PutThree (map suc (from first (end - first))) buf.old at buf.new result }
 {
     let mut place = at;
-    let mut column = first;
-    while column < end {
+    for column in first..end {
         place = put_in_three(buf, place, column + 1);
-        column += 1;
     }
     place
 }
@@ -31,10 +29,8 @@ pub fn put_all_in_three(buf: &mut [u8], at: usize, numbers: &[u8]) -> usize
     ensures { PutThree numbers.now buf.old at buf.new result }
 {
     let mut place = at;
-    let mut i = 0;
-    while i < numbers.len() {
-        place = put_in_three(buf, place, numbers[i] as usize);
-        i += 1;
+    for number in numbers {
+        place = put_in_three(buf, place, *number as usize);
     }
     place
 }

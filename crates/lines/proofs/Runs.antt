@@ -1,7 +1,7 @@
 -- Laws of `run_lines`: one run more, and how long the lines of byte-sized numbers are at most.
 use mathlib.Core.Path.{◌≡◌, sym, ◌∙◌, ap}
 use mathlib.Core.List.{List, [], ◌∷◌, ◌++◌, append_assoc, append-nil}
-use Prim.Native.Nat.{ℕ, zero, suc, ◌+◌, ◌*◌, ◌≤◌, zero-le}
+use Prim.Native.Nat.{ℕ, zero, suc, ◌+◌, ◌*◌, ◌≤◌, ◌<◌, zero-le, suc-le-suc}
 use native.Mathlib.Nat.{zero-mul, suc-mul}
 use native.Mathlib.Omega.{arith}
 use lib.ListN.{length, take, drop, length-append, length-take, length-drop}
@@ -10,7 +10,13 @@ use Rattle.buffers.specs.Put.{Bytes}
 use Rattle.decimals.specs.Decimals.{decimal_digits}
 use Rattle.rows.specs.Rows.{spaced, line}
 use Rattle.lines.specs.Lines.{run_lines}
-use Rattle.decimals.proofs.Decimals.{decimal_byte}
+use Rattle.decimals.proofs.Decimals.{decimal_byte, decimal_word}
+use mir.Syntax.{w64}
+use mir.Val.{Fits}
+
+-- A number of 64 bits has fewer than 21 digits.
+pub word_short : {n : ℕ} → Fits w64 n → length (decimal_digits n) < 21
+word_short {n} word = suc-le-suc (decimal_word n word.fits)
 
 next : (runs m : ℕ) → m + runs * m ≡ suc runs * m
 next runs m = omega (arith, suc-mul runs m)

@@ -29,10 +29,8 @@ fn end_with_numbers(buf: &mut [u8], at: usize, numbers: &[usize]) -> usize
     ensures { Put buf.old at (spaced numbers.now ++ (10 ∷ [])) buf.new result }
 {
     let mut place = at;
-    let mut i = 0;
-    while i < numbers.len() {
-        place = put_spaced(buf, place, numbers[i]);
-        i += 1;
+    for number in numbers {
+        place = put_spaced(buf, place, *number);
     }
     put_byte(buf, place, b'\n')
 }

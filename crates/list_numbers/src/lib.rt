@@ -6,7 +6,7 @@ ghost use Rattle.order.specs.Reader.{allowed};
 ghost use Rattle.order.specs.Grammar.{between};
 ghost use Rattle.order.specs.Answers.{number_of};
 
-use order::{Cursor, Number};
+use order::{Cursor, Refused};
 
 // The number at the cursor, or 0 past the end.
 pub fn peek(list: &[u16], c: Cursor) -> usize
@@ -20,22 +20,19 @@ pub fn peek(list: &[u16], c: Cursor) -> usize
     }
 }
 
-// The number at the cursor, which is allowed where ok is true.
-pub fn accept(list: &[u16], c: Cursor, ok: bool) -> Number
+// The number at the cursor, which is allowed where ok is true, with the cursor after it.
+pub fn accept(list: &[u16], c: Cursor, ok: bool) -> Result<(usize, Cursor), Refused>
     ensures { result ≡ number_of (allowed (λ x. ok) list.now c.at) }
 {
     let at = c.at;
     if at < list.len() {
         if ok {
-            Number::Is {
-                value: peek(list, c),
-                next: Cursor { at: at + 1 },
-            }
+            Ok((peek(list, c), Cursor { at: at + 1 }))
         } else {
-            Number::Refused { place: at }
+            Err(Refused { place: at })
         }
     } else {
-        Number::Refused { place: list.len() }
+        Err(Refused { place: list.len() })
     }
 }
 
@@ -47,7 +44,7 @@ pub fn within(x: usize, low: usize, high: usize) -> bool
 }
 
 // A number from low to high.
-pub fn number(list: &[u16], c: Cursor, low: usize, high: usize) -> Number
+pub fn number(list: &[u16], c: Cursor, low: usize, high: usize) -> Result<(usize, Cursor), Refused>
     ensures { result ≡ number_of (allowed (between low high) list.now c.at) }
 {
     accept(list, c, within(peek(list, c), low, high))

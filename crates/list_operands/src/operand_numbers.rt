@@ -5,7 +5,7 @@ ghost use Rattle.order.specs.Grammar.{merge_prime, ingredient_number, none_or_in
 ghost use Rattle.order.specs.Answers.{number_of, walk_of};
 
 use list_numbers::{accept, peek, within};
-use order::{Cursor, Number, Walk};
+use order::{Cursor, Refused};
 
 // Whether p is 2, 3, 5 or 7.
 fn is_merge_prime(p: usize) -> bool
@@ -24,7 +24,7 @@ fn is_merge_prime(p: usize) -> bool
 }
 
 // The p of MERGE.
-pub fn merge_prime(list: &[u16], c: Cursor) -> Number
+pub fn merge_prime(list: &[u16], c: Cursor) -> Result<(usize, Cursor), Refused>
     ensures { result ≡ number_of (allowed merge_prime list.now c.at) }
 {
     accept(list, c, is_merge_prime(peek(list, c)))
@@ -38,7 +38,7 @@ fn is_ingredient_number(i: usize) -> bool
 }
 
 // The number of an ingredient.
-pub fn ingredient_number(list: &[u16], c: Cursor) -> Number
+pub fn ingredient_number(list: &[u16], c: Cursor) -> Result<(usize, Cursor), Refused>
     ensures { result ≡ number_of (allowed ingredient_number list.now c.at) }
 {
     accept(list, c, is_ingredient_number(peek(list, c)))
@@ -55,26 +55,19 @@ fn is_none_or_ingredient(k: usize) -> bool
 }
 
 // The number of an ingredient, or 0 for none.
-pub(crate) fn none_or_ingredient(list: &[u16], c: Cursor) -> Number
+pub(crate) fn none_or_ingredient(list: &[u16], c: Cursor) -> Result<(usize, Cursor), Refused>
     ensures { result ≡ number_of (allowed none_or_ingredient list.now c.at) }
 {
     accept(list, c, is_none_or_ingredient(peek(list, c)))
 }
 
 // n numbers of ingredients.
-pub(crate) fn ingredient_numbers(list: &[u16], start: Cursor, n: usize) -> Walk
+pub(crate) fn ingredient_numbers(list: &[u16], start: Cursor, n: usize) -> Result<Cursor, Refused>
     ensures { result ≡ walk_of (repeated n (allowed ingredient_number) list.now start.at) }
 {
     let mut c = start;
-    let mut left = n;
-    while 0 < left {
-        match ingredient_number(list, c) {
-            Number::Is { value: _, next } => {
-                c = next;
-            }
-            Number::Refused { place } => return Walk::Refused { place },
-        }
-        left -= 1;
+    for _ in 0..n {
+        (_, c) = ingredient_number(list, c)?;
     }
-    Walk::On { next: c }
+    Ok(c)
 }

@@ -7,7 +7,7 @@ ghost use Rattle.order.specs.Grammar.{between};
 ghost use Rattle.order.specs.Answers.{walk_of};
 
 use list_numbers::number;
-use order::{Cursor, Number, Walk};
+use order::{Cursor, Refused};
 
 // How many numbers stand from a place on.
 fn remaining(list: &[u16], at: usize) -> usize
@@ -17,33 +17,30 @@ fn remaining(list: &[u16], at: usize) -> usize
 }
 
 // n numbers of any size.
-pub fn skip(list: &[u16], c: Cursor, n: usize) -> Walk
+pub fn skip(list: &[u16], c: Cursor, n: usize) -> Result<Cursor, Refused>
     ensures { result ≡ walk_of (numbers n list.now c.at) }
 {
     let at = c.at;
     if n <= remaining(list, at) {
-        Walk::On {
-            next: Cursor { at: at + n },
-        }
+        Ok(Cursor { at: at + n })
     } else {
-        Walk::Refused { place: list.len() }
+        Err(Refused { place: list.len() })
     }
 }
 
 // n numbers from low to high.
-pub fn series(list: &[u16], start: Cursor, n: usize, low: usize, high: usize) -> Walk
+pub fn series(
+    list: &[u16],
+    start: Cursor,
+    n: usize,
+    low: usize,
+    high: usize,
+) -> Result<Cursor, Refused>
     ensures { result ≡ walk_of (repeated n (allowed (between low high)) list.now start.at) }
 {
     let mut c = start;
-    let mut left = n;
-    while 0 < left {
-        match number(list, c, low, high) {
-            Number::Is { value: _, next } => {
-                c = next;
-            }
-            Number::Refused { place } => return Walk::Refused { place },
-        }
-        left -= 1;
+    for _ in 0..n {
+        (_, c) = number(list, c, low, high)?;
     }
-    Walk::On { next: c }
+    Ok(c)
 }

@@ -10,20 +10,18 @@ use list_numbers::number;
 use list_operands::operand_numbers::{ingredient_number, merge_prime};
 use list_operands::{after, cross_operands, split_operands, sum_operands};
 use list_series::series;
-use order::{Cursor, Number, Stage, Walk};
+use order::{Cursor, Refused, Stage};
 
 // MERGE: p, and p + 1 columns.
-fn merge_operands(list: &[u16], c: Cursor) -> Walk
+fn merge_operands(list: &[u16], c: Cursor) -> Result<Cursor, Refused>
     ensures { result ≡ walk_of (read_merge list.now c.at) }
 {
-    match merge_prime(list, c) {
-        Number::Is { value: p, next } => series(list, next, p + 1, 1, 128),
-        Number::Refused { place } => Walk::Refused { place },
-    }
+    let (p, next) = merge_prime(list, c)?;
+    series(list, next, p + 1, 1, 128)
 }
 
 // The operands of a step of a kind.
-fn operands(list: &[u16], c: Cursor, kind: usize) -> Walk
+fn operands(list: &[u16], c: Cursor, kind: usize) -> Result<Cursor, Refused>
     ensures { result ≡ walk_of (step_of kind list.now c.at) }
 {
     match kind {
@@ -37,50 +35,30 @@ fn operands(list: &[u16], c: Cursor, kind: usize) -> Walk
 }
 
 // The step at the cursor.
-pub fn step(list: &[u16], c: Cursor) -> Stage
+pub fn step(list: &[u16], c: Cursor) -> Result<(Stage, Cursor), Refused>
     ensures { result ≡ stage_of (c.at + 1) (read_step list.now c.at) }
 {
-    match number(list, c, 1, 6) {
-        Number::Is { value: kind, next } => match operands(list, next, kind) {
-            Walk::On { next: end } => Stage::Found {
-                kind,
-                operands_at: next.at,
-                next: end,
-            },
-            Walk::Refused { place } => Stage::Refused { place },
-        },
-        Number::Refused { place } => Stage::Refused { place },
-    }
+    let (kind, next) = number(list, c, 1, 6)?;
+    let end = operands(list, next, kind)?;
+    let operands_at = next.at;
+    Ok((Stage { kind, operands_at }, end))
 }
 
 // n steps.
-pub fn steps(list: &[u16], start: Cursor, n: usize) -> Walk
+pub fn steps(list: &[u16], start: Cursor, n: usize) -> Result<Cursor, Refused>
     ensures { result ≡ walk_of (repeated n read_step list.now start.at) }
 {
     let mut c = start;
-    let mut left = n;
-    while 0 < left {
-        match step(list, c) {
-            Stage::Found {
-                kind: _,
-                operands_at: _,
-                next,
-            } => {
-                c = next;
-            }
-            Stage::Refused { place } => return Walk::Refused { place },
-        }
-        left -= 1;
+    for _ in 0..n {
+        (_, c) = step(list, c)?;
     }
-    Walk::On { next: c }
+    Ok(c)
 }
 
 // How many steps, and they.
-pub fn counted_steps(list: &[u16], c: Cursor) -> Walk
+pub fn counted_steps(list: &[u16], c: Cursor) -> Result<Cursor, Refused>
     ensures { result ≡ walk_of (counted 1 16 read_step list.now c.at) }
 {
-    match number(list, c, 1, 16) {
-        Number::Is { value: z, next } => steps(list, next, z),
-        Number::Refused { place } => Walk::Refused { place },
-    }
+    let (z, next) = number(list, c, 1, 16)?;
+    steps(list, next, z)
 }

@@ -12,7 +12,7 @@ ghost use Rattle.ingredients.specs.Standing.{TableStands, MatrixStands, Generato
 ghost use Rattle.question_4.specs.Passing.{Room, Copyable};
 
 use buffers::{clear, put_numbers};
-use counting::verdict::{GeneratorFinding, MatrixFinding, TableVerdict};
+use counting::verdict::{DependenceFault, DifferenceFault, TableVerdict};
 use generator_check::check_generator;
 use matrix_check::check_matrix;
 use table_check::check_table;
@@ -50,7 +50,7 @@ pub fn matrix_finding(
     p: usize,
     entries: usize,
     cells: &mut [u8],
-) -> MatrixFinding
+) -> Result<(), DifferenceFault>
     requires matrix_stands { MatrixStands list.now rows columns p entries }
     requires in_bounds { 65536 ≤ length cells.old }
     requires cells_value { cells.old ≡ replicate (length cells.old) 0 }
@@ -75,7 +75,7 @@ pub fn generator_finding(
     entries: usize,
     cells: &mut [u8],
     numbers: &mut [u8],
-) -> GeneratorFinding
+) -> Result<(), DependenceFault>
     requires generator_stands { GeneratorStands list.now t n s widths width entries }
     requires room { Room cells.old numbers.old }
     ensures value { result ≡ generator_verdict (generator_in list.now t n s widths width entries) }

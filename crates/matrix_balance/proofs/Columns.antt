@@ -5,9 +5,10 @@ use mathlib.Core.Bool.{Bool, true, false, cond}
 use mathlib.Core.List.{List}
 use mathlib.Core.Option.{Option, none, some, none-ne-some, some-injective}
 use Prim.Native.Nat.{ℕ, ◌*◌, ◌<◌}
-use native.Mathlib.Omega.{arith}
 use borrow.Author.Tests.{eq-eqb, ne_eqb}
 use lib.Dec.{eqb}
+use Rattle.std.specs.Prelude.{Some, None}
+use Rattle.std.specs.Prelude as Prelude
 use Rattle.finite.specs.First.{first}
 use Rattle.finite.proofs.Firsts.{first_none, first_at, found_least, cond_then}
 use Rattle.galois.specs.Arithmetic.{member}
@@ -17,13 +18,7 @@ use Rattle.counting.proofs.Deviations.{none_even, some_lowest}
 use Rattle.step_tables.specs.Cross.{ValueFault, value_times, value_fault_at, matrix_fault, served_fault}
 use Rattle.tally.specs.Tally.{as_deviation}
 use Rattle.tally.specs.declared.Deviation.{Deviation}
-use Rattle.tally.specs.declared.Deviation.TheVariants.{At, Nowhere}
 use Rattle.tally.proofs.Tallies.{at_some, nowhere_none}
-use Rattle.matrix_balance.specs.declared.Column.TheVariants.{Even, Uneven}
-
--- a column that is named is not none
-pub uneven_not_even : (c v : ℕ) → Uneven c v ≡ Even → ⊥
-uneven_not_even c v e = let z : ◌≡◌ {A = ℕ} 0 1 = cc in omega arith
 
 -- what is found under a test is what stands there
 tested : (b : Bool) {x y : ValueFault} → cond b none (some x) ≡ some y → x ≡ y
@@ -36,21 +31,21 @@ in_column q D c = first D.modulus (value_fault_at q D c)
 
 module _ (D : Matrix) (c q : ℕ) where
   -- no value that deviates
-  pub column_even : {r : Deviation} → r ≡ Nowhere → r ≡ as_deviation (deviation D.modulus D.rows (value_times D c)) → in_column q D c ≡ none
+  pub column_even : {r : Prelude.Option Deviation} → r ≡ None → r ≡ as_deviation (deviation D.modulus D.rows (value_times D c)) → in_column q D c ≡ none
   unfolding value_fault_at
   column_even is e =
       let even = none_even D.modulus D.rows (value_times D c) (nowhere_none _ (sym is ∙ e)) in
       first_none _ D.modulus (λ v h. rw (eq-eqb (D.modulus * value_times D c v) D.rows (even v h)))
 
   -- the lowest value that does
-  pub column_uneven : {r : Deviation} {v t : ℕ} → r ≡ At v t → r ≡ as_deviation (deviation D.modulus D.rows (value_times D c))
-      → in_column q D c ≡ some (record { place = q; column = c; value = v })
+  pub column_uneven : {r : Prelude.Option Deviation} {d : Deviation} → r ≡ Some d → r ≡ as_deviation (deviation D.modulus D.rows (value_times D c))
+      → in_column q D c ≡ some (record { place = q; column = c; value = d.value })
   unfolding value_fault_at
-  column_uneven {v = v} {t = t} is e =
-      let lowest = some_lowest D.modulus D.rows (value_times D c) _ (at_some _ v t (sym is ∙ e)) in
-      first_at _ D.modulus v _ lowest.below
+  column_uneven {d = d} is e =
+      let lowest = some_lowest D.modulus D.rows (value_times D c) _ (at_some _ d (sym is ∙ e)) in
+      first_at _ D.modulus d.value _ lowest.below
       (λ w h. rw (eq-eqb (D.modulus * value_times D c w) D.rows (lowest.before w h)))
-      (rw (ne_eqb (D.modulus * value_times D c v) D.rows lowest.uneven))
+      (rw (ne_eqb (D.modulus * value_times D c d.value) D.rows lowest.uneven))
 
 module _ (D : Matrix) (q : ℕ) where
   -- no column is uneven

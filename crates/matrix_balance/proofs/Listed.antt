@@ -1,44 +1,31 @@
 -- The matrices of the step's list, each by its place in it, and the level counts that they serve.
 -- Assumes nothing.
 use mathlib.Core.Path.{◌≡◌, refl, sym, ◌∙◌, ap}
-use mathlib.Core.Bool.{true, false}
+use mathlib.Core.Bool.{true}
 use mathlib.Core.List.{List, [], ◌∷◌, map}
 use mathlib.Core.Option.{Option, none, some, bind}
 use Prim.Native.Nat.{ℕ, zero, suc, ◌+◌, ◌≤◌, ◌<◌}
 use native.Mathlib.Nat.{not-suc-le-zero, le_of_suc-le-suc, lt_of_lt_of_le}
 use native.Mathlib.Omega.{arith}
-use borrow.Author.Tests.{ne_eqb}
 use lib.Dec.{T, ltb, ltb→lt}
 use lib.ListN.{length, get_or, get_elem?, length-map}
+use Rattle.std.specs.Prelude.{Some, None}
+use Rattle.std.specs.Prelude as Prelude
 use Rattle.finite.proofs.Firsts.{first_none, first_at}
-use Rattle.galois.specs.Arithmetic.{member}
 use Rattle.counting.specs.Matrix.{Matrix, matrix_of}
 use Rattle.order.specs.Grammar.{read_order}
 use Rattle.places.specs.Places.{ingredient_at}
 use Rattle.ingredients.specs.Standing.{MatrixStands}
 use Rattle.step_tables.specs.Lists.{all_of}
 use Rattle.step_tables.specs.Cross.{ValueFault, served_fault, serving_fault}
-use Rattle.step_tables.proofs.Lists.{mem_get_d, all_of_mem, mem_member}
+use Rattle.step_tables.proofs.Lists.{mem_get_d, all_of_mem}
 use Rattle.layout.specs.Step.{Readable}
 use Rattle.sum_bytes.specs.Summing.{matrix_place, placed_matrix, matrix_at, matrices_at}
 use Rattle.sum_bytes.specs.declared.MatrixPlace.{MatrixPlace}
-use Rattle.sum_bytes.proofs.Serving.{place_stands, true_is}
+use Rattle.sum_bytes.proofs.Serving.{place_stands}
 use Rattle.matrix_balance.proofs.Columns.{column_below}
 use Rattle.matrix_balance.specs.Balance.{found_in, balance_of}
-use Rattle.matrix_balance.specs.declared.Balance.TheVariants.{Even, Uneven}
-use Rattle.matrix_balance.specs.declared.Column.{Column}
-use Rattle.matrix_balance.specs.declared.Column.TheVariants.{Even as EvenColumns, Uneven as UnevenColumn}
-
--- ---- a level count that is served
-
-pub member_at : (p : ℕ) (levels : List ℕ) (j : ℕ) → j < length levels → get_or levels j 0 ≡ p → true ≡ member p levels
-member_at p levels j h e = true_is (member p levels) (mem_member (rw e at (mem_get_d levels j 0 h)))
-
-pub member_nowhere : (p : ℕ) (levels : List ℕ) → ((j : ℕ) → j < length levels → get_or levels j 0 ≡ p → ⊥) → false ≡ member p levels
-member_nowhere p [] other = refl
-member_nowhere p (s ∷ levels) other =
-    rw (ne_eqb p s (λ e. other 0 (omega arith) (sym e)))
-    (member_nowhere p levels (λ j h. other (suc j) (omega arith)))
+use Rattle.matrix_balance.specs.declared.UnevenColumn.{UnevenColumn}
 
 -- ---- the matrix in a place of the step's list
 
@@ -84,26 +71,26 @@ module _ (list ds levels : List ℕ) where
 
   -- the matrix that was looked up in place q, and what was found in it
   module _ (q : ℕ) {m : MatrixPlace} (named : m ≡ matrix_place (ingredient_at (read_order list) (get_or ds q 0)))
-      (r : Column) (found : (k : ℕ) → found_in k r ≡ served_fault levels k (placed_matrix list m)) where
+      (r : Prelude.Option UnevenColumn) (found : (k : ℕ) → found_in k r ≡ served_fault levels k (placed_matrix list m)) where
     in_place_lem : found_in q r ≡ in_place q
     unfolding matrix_at
     in_place_lem = found q ∙ ap (λ (x : MatrixPlace). served_fault levels q (placed_matrix list x)) named
 
     -- a column that was found is one of at most 128
-    pub column_fits : Readable list → all_of (λ d. ltb 0 (matrix_at list d).rows) ds ≡ true → q < length ds → {c v : ℕ} → r ≡ UnevenColumn c v → c < 128
+    pub column_fits : Readable list → all_of (λ d. ltb 0 (matrix_at list d).rows) ds ≡ true → q < length ds → {u : UnevenColumn} → r ≡ Some u → u.column < 128
     unfolding placed_matrix matrix_of
     column_fits readable all h is =
         let below = column_below (placed_matrix list m) q levels (sym (found q) ∙ ap (found_in q) is) in
         omega (arith, below, (named_stands ds readable all q h named).columns_limits.1)
 
-    pub even_there : r ≡ EvenColumns → in_place q ≡ none
+    pub even_there : r ≡ None → in_place q ≡ none
     even_there is = sym in_place_lem ∙ ap (found_in q) is
 
-    pub uneven_there : {c v : ℕ} → q < length ds → ((k : ℕ) → k < q → in_place k ≡ none) → r ≡ UnevenColumn c v
-        → Uneven (get_or ds q 0) (c + 1) v ≡ balance_of ds (serving_fault (matrices_at list ds) levels)
+    pub uneven_there : {u : UnevenColumn} → q < length ds → ((k : ℕ) → k < q → in_place k ≡ none) → r ≡ Some u
+        → Some (record { ingredient = get_or ds q 0; column = u.column + 1; value = u.value }) ≡ balance_of ds (serving_fault (matrices_at list ds) levels)
     unfolding balance_of
     uneven_there h before is = sym (ap (balance_of ds) (uneven_at q h before (sym in_place_lem ∙ ap (found_in q) is)))
 
-  pub all_even : {n : ℕ} → length ds ≤ n → ((k : ℕ) → k < n → in_place k ≡ none) → Even ≡ balance_of ds (serving_fault (matrices_at list ds) levels)
+  pub all_even : {n : ℕ} → length ds ≤ n → ((k : ℕ) → k < n → in_place k ≡ none) → None ≡ balance_of ds (serving_fault (matrices_at list ds) levels)
   unfolding balance_of
   all_even h e = sym (ap (balance_of ds) (none_uneven (λ q l. e q (lt_of_lt_of_le l h))))

@@ -1,13 +1,13 @@
 -- The values of one column of a matrix, where they stand in the list: row by row, a row's length apart, each below p.
 -- Assumes nothing.
-use mathlib.Core.Path.{◌≡◌, refl, sym, ◌∙◌, ap}
+use mathlib.Core.Path.{◌≡◌, sym, ◌∙◌, ap}
 use mathlib.Core.List.{List}
 use Prim.Native.Nat.{ℕ, ◌+◌, ◌*◌, ◌≤◌, ◌<◌}
-use native.Mathlib.Nat.{le_refl, le_antisymm, zero-mul, zero-add}
+use native.Mathlib.Nat.{le_refl, add_assoc}
 use native.Mathlib.Omega.{arith}
 use lib.ListN.{length, get_or}
 use lib.Seq.{get_or-take, get_or-drop}
-use Rattle.finite.proofs.Fits.{place_below, run_more}
+use Rattle.finite.proofs.Fits.{place_below}
 use Rattle.counting.specs.Matrix.{matrix_of}
 use Rattle.counting.specs.Verdict.{deviation}
 use Rattle.ingredients.specs.Standing.{MatrixStands}
@@ -21,36 +21,26 @@ use Rattle.tally.proofs.Tallies.{deviation_tallied, past_keys}
 abbrev pub value_in : List ℕ → MatrixPlace → ℕ → ℕ → ℕ
 value_in list m c y = (placed_matrix list m).entry y c
 
--- where row y has its value in column c
-abbrev pub row_at : MatrixPlace → ℕ → ℕ → ℕ
-row_at m c y = m.start + (y * m.columns + c)
-
-pub row_first : (m : MatrixPlace) (c : ℕ) → m.start + c ≡ row_at m c 0
-row_first m c = rw (zero-mul, zero-add)
-
-pub row_next : (m : MatrixPlace) (c y : ℕ) {at : ℕ} → at ≡ row_at m c y → at + m.columns ≡ row_at m c (y + 1)
-row_next m c y e = omega (arith, run_more y m.columns)
-
--- all rows are counted
-pub all_rows : {counters : List ℕ} {key : ℕ → ℕ} {y rows : ℕ} → Tallied counters y key → y ≤ rows → rows ≤ y → Tallied counters rows key
-all_rows t h l = rw (le_antisymm h l) at t
-
 module _ {list : List ℕ} {m : MatrixPlace} (stands : MatrixStands list m.rows m.columns m.p m.start) {c : ℕ} (h : c < m.columns) where
   module _ {y : ℕ} (l : y < m.rows) where
-    pub row_within : {at : ℕ} → at ≡ row_at m c y → at < length list
-    row_within e = omega (arith, place_below l h (le_refl (m.rows * m.columns)), stands.entries_within)
+    -- where row y has its value in column c
+    pub row_within : m.start + y * m.columns + c < length list
+    row_within = omega (arith, place_below l h (le_refl (m.rows * m.columns)), stands.entries_within)
 
-    pub value_read : {at : ℕ} → at ≡ row_at m c y → get_or list at 0 ≡ value_in list m c y
+    pub value_read : get_or list (m.start + y * m.columns + c) 0 ≡ value_in list m c y
     unfolding placed_matrix matrix_of
-    value_read e =
-        ap (λ k. get_or list k 0) e
+    value_read =
+        ap (λ k. get_or list k 0) (add_assoc m.start (y * m.columns) c)
         ∙ sym (get_or-take (m.rows * m.columns) _ _ 0 (place_below l h (le_refl _)) ∙ get_or-drop m.start list _ 0)
 
     pub value_below : value_in list m c y < m.p
-    value_below = rw (← value_read refl) (stands.entry_below (y * m.columns + c) (place_below l h (le_refl _)))
+    value_below = rw (← value_read, add_assoc) (stands.entry_below (y * m.columns + c) (place_below l h (le_refl _)))
 
     pub counter_there : value_in list m c y < 4096
     counter_there = omega (arith, value_below, stands.modulus_limits.1)
+
+    pub counter_within : (counters : List ℕ) → length counters ≡ 4096 → get_or list (m.start + y * m.columns + c) 0 < length counters
+    counter_within counters size = rw (value_read, size) counter_there
 
   -- what the counters show of the column
   module _ {counters : List ℕ} (t : Tallied counters m.rows (value_in list m c)) where

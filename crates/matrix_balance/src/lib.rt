@@ -17,59 +17,57 @@ use sum_bytes::MatrixPlace;
 use sum_operands::matrix_named;
 use tally::{Deviation, first_deviation};
 
-// The first serving matrix with an uneven column, by its number in the list; the lowest such column, from 1, and the lowest value in it.
+// A serving matrix with an uneven column, by its number in the list; the lowest such column, from 1, and the lowest value
+// in it.
 #[derive(Clone, Copy)]
-pub enum Balance {
-    Even,
-    Uneven {
-        ingredient: usize,
-        column: usize,
-        value: usize,
-    },
+pub struct Unevenness {
+    pub ingredient: usize,
+    pub column: usize,
+    pub value: usize,
 }
 
 // An uneven column of one matrix: the column, from 0, and a value in it.
 #[derive(Clone, Copy)]
-enum Column {
-    Even,
-    Uneven { column: usize, value: usize },
+struct UnevenColumn {
+    column: usize,
+    value: usize,
 }
 
-// The first of the matrices d1 .. dr that serves a column of the sheet and is uneven.
-pub fn first_uneven(list: &[u16], ds: &[u16], levels: &[u8]) -> Balance
+// The first of the matrices d1 .. dr that serves a column of the sheet and is uneven, or `None` where none is.
+pub fn first_uneven(list: &[u16], ds: &[u16], levels: &[u8]) -> Option<Unevenness>
     requires readable { Readable list.now }
     requires ds_value { all_of (λ d. ltb 0 (matrix_at list.now d).rows) ds.now ≡ true }
     ensures { result ≡ balance_of ds.now (serving_fault (matrices_at list.now ds.now) levels.now) }
 {
     let mut counters = [0u16; 4096];
-    let mut i = 0;
-    while i < ds.len() {
-        let d = ds[i] as usize;
-        let m = matrix_named(list, d);
-        match serving_column(list, m, levels, &mut counters) {
-            Column::Uneven { column, value } => {
-                return Balance::Uneven {
-                    ingredient: d,
-                    column: column + 1,
-                    value,
-                };
-            }
-            Column::Even => {}
+    for d in ds {
+        let ingredient = *d as usize;
+        let m = matrix_named(list, ingredient);
+        if let Some(uneven) = serving_column(list, m, levels, &mut counters) {
+            return Some(Unevenness {
+                ingredient,
+                column: uneven.column + 1,
+                value: uneven.value,
+            });
         }
-        i += 1;
     }
-    Balance::Even
+    None
 }
 
 // The lowest uneven column of a matrix that serves the sheet. One that serves none of its columns is not asked.
-fn serving_column(list: &[u16], m: MatrixPlace, levels: &[u8], counters: &mut [u16]) -> Column
+fn serving_column(
+    list: &[u16],
+    m: MatrixPlace,
+    levels: &[u8],
+    counters: &mut [u16],
+) -> Option<UnevenColumn>
     requires matrix_stands { MatrixStands list.now m.rows m.columns m.p m.start }
     requires cleared { Cleared counters.old }
     ensures by_index { (q : ℕ) → found_in q result ≡ served_fault levels.now q (placed_matrix list.now m) }
-    ensures cleared_2 { result ≡ Column.Even → Cleared counters.new }
+    ensures cleared_2 { result ≡ None → Cleared counters.new }
 {
     if !serves(levels, m.p) {
-        return Column::Even;
+        return None;
     }
     uneven_column(list, m, counters)
 }
@@ -78,43 +76,39 @@ fn serving_column(list: &[u16], m: MatrixPlace, levels: &[u8], counters: &mut [u
 fn serves(levels: &[u8], p: usize) -> bool
     ensures { result ≡ member p levels.now }
 {
-    let mut j = 0;
-    while j < levels.len() {
-        if levels[j] as usize == p {
-            return true;
-        }
-        j += 1;
-    }
-    false
+    levels.iter().any(|s| *s as usize == p)
 }
 
 // The lowest uneven column of a matrix, and the lowest value in it.
-fn uneven_column(list: &[u16], m: MatrixPlace, counters: &mut [u16]) -> Column
+fn uneven_column(list: &[u16], m: MatrixPlace, counters: &mut [u16]) -> Option<UnevenColumn>
     requires matrix_stands { MatrixStands list.now m.rows m.columns m.p m.start }
     requires cleared { Cleared counters.old }
     ensures by_index { (q : ℕ) → found_in q result ≡ matrix_fault q (placed_matrix list.now m) }
-    ensures cleared_2 { result ≡ Column.Even → Cleared counters.new }
+    ensures cleared_2 { result ≡ None → Cleared counters.new }
 {
-    let mut column = 0;
-    while column < m.columns {
-        match column_deviation(list, m, column, counters) {
-            Deviation::At { value, times: _ } => {
-                return Column::Uneven { column, value };
-            }
-            Deviation::Nowhere => {}
+    for column in 0..m.columns {
+        if let Some(deviation) = column_deviation(list, m, column, counters) {
+            return Some(UnevenColumn {
+                column,
+                value: deviation.value,
+            });
         }
-        column += 1;
     }
-    Column::Even
+    None
 }
 
 // The lowest of the p values that does not stand in the p-th part of the rows of one column.
-fn column_deviation(list: &[u16], m: MatrixPlace, column: usize, counters: &mut [u16]) -> Deviation
+fn column_deviation(
+    list: &[u16],
+    m: MatrixPlace,
+    column: usize,
+    counters: &mut [u16],
+) -> Option<Deviation>
     requires matrix_stands { MatrixStands list.now m.rows m.columns m.p m.start }
     requires column_lt_columns { column < m.columns }
     requires cleared { Cleared counters.old }
     ensures value { result ≡ as_deviation (deviation m.p m.rows (value_times (placed_matrix list.now m) column)) }
-    ensures cleared_2 { result ≡ Deviation.Nowhere → Cleared counters.new }
+    ensures cleared_2 { result ≡ None → Cleared counters.new }
 {
     tally_values(list, m, column, counters);
     first_deviation(counters, m.p, m.rows)
@@ -127,12 +121,8 @@ fn tally_values(list: &[u16], m: MatrixPlace, column: usize, counters: &mut [u16
     requires cleared { Cleared counters.old }
     ensures { Tallied counters.new m.rows (λ y. (placed_matrix list.now m).entry y column) }
 {
-    let mut at = m.start + column;
-    let mut row = 0;
-    while row < m.rows {
-        let value = list[at] as usize;
+    for row in 0..m.rows {
+        let value = list[m.start + row * m.columns + column] as usize;
         counters[value] += 1;
-        at += m.columns;
-        row += 1;
     }
 }

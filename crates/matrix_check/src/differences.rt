@@ -19,13 +19,13 @@ pub fn differences_deviation(
     p: usize,
     differences: &[u8],
     counters: &mut [u16],
-) -> Deviation
+) -> Option<Deviation>
     requires checkable_matrix { CheckableMatrix entries.now rows columns p }
     requires first_lt_columns { (first < columns) × (second < columns) }
     requires differences_of { DifferencesOf p (p * p) differences.now }
     requires cleared { Cleared counters.old }
     ensures value { result ≡ as_deviation (difference_deviation (matrix_of entries.now rows columns p) first second) }
-    ensures cleared_2 { result ≡ Deviation.Nowhere → Cleared counters.new }
+    ensures cleared_2 { result ≡ None → Cleared counters.new }
 {
     tally_differences(
         entries,
@@ -57,15 +57,11 @@ fn tally_differences(
     requires cleared { Cleared counters.old }
     ensures { Tallied counters.new rows (row_difference (matrix_of entries.now rows columns p) first second) }
 {
-    let mut start = 0;
-    let mut row = 0;
-    while row < rows {
-        let x = entries[start + first] as usize;
-        let y = entries[start + second] as usize;
+    for row in entries[..rows * columns].chunks_exact(columns) {
+        let x = row[first] as usize;
+        let y = row[second] as usize;
         let key = differences[x * p + y] as usize;
         counters[key] += 1;
-        start += columns;
-        row += 1;
     }
 }
 
@@ -76,13 +72,11 @@ pub fn difference_table(p: usize) -> [u8; 4096]
     ensures { DifferencesOf p (p * p) result }
 {
     let mut differences = [0u8; 4096];
-    let mut place = 0;
-    while place < p * p {
+    for place in 0..p * p {
         let difference = (place / p) as u8;
         let y = place % p;
         let x = level_sum(p as u8, difference, y as u16) as usize;
         differences[x * p + y] = difference;
-        place += 1;
     }
     differences
 }

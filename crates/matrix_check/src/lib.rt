@@ -8,23 +8,28 @@ ghost use Rattle.counting.specs.Matrix.{matrix_of};
 ghost use Rattle.counting.specs.Checkable.{CheckableMatrix};
 ghost use Rattle.counting.specs.Verdict.{matrix_verdict};
 
-use counting::verdict::{DifferenceFault, MatrixFinding};
+use counting::verdict::DifferenceFault;
 use differences::{difference_table, differences_deviation};
 use finite::pairs::IndexPair;
-use tally::Deviation;
 
 // The verdict on the matrix whose rows lie one after the other in `entries`.
-pub fn check_matrix(entries: &[u8], rows: usize, columns: usize, p: usize) -> MatrixFinding
+pub fn check_matrix(
+    entries: &[u8],
+    rows: usize,
+    columns: usize,
+    p: usize,
+) -> Result<(), DifferenceFault>
     requires { CheckableMatrix entries.now rows columns p }
     ensures { result ≡ matrix_verdict (matrix_of entries.now rows columns p) }
 {
     let differences = difference_table(p);
     let mut counters = [0u16; 4096];
+    // A `while`, as in the check of a table: each pair is made from the one before it, with its place.
     let mut pair = IndexPair::start();
     while pair.second < columns {
         let first = pair.first;
         let second = pair.second;
-        match differences_deviation(
+        let found = differences_deviation(
             entries,
             rows,
             columns,
@@ -33,18 +38,16 @@ pub fn check_matrix(entries: &[u8], rows: usize, columns: usize, p: usize) -> Ma
             p,
             &differences,
             &mut counters,
-        ) {
-            Deviation::At { value, times } => {
-                return MatrixFinding::Fails(DifferenceFault {
-                    first: first + 1,
-                    second: second + 1,
-                    difference: value,
-                    times,
-                });
-            }
-            Deviation::Nowhere => {}
+        );
+        if let Some(deviation) = found {
+            return Err(DifferenceFault {
+                first: first + 1,
+                second: second + 1,
+                difference: deviation.value,
+                times: deviation.times,
+            });
         }
         pair = pair.next(columns);
     }
-    MatrixFinding::Passes
+    Ok(())
 }

@@ -1,10 +1,11 @@
 -- Question 7 run by run: the members of a run that are their sums, and the first that is not.
 -- Assumes nothing.
+use Rattle.std.specs.Prelude.{Some, None}
 use mathlib.Core.Path.{◌≡◌, refl, sym, ◌∙◌, ap}
 use mathlib.Core.List.{List}
 use mathlib.Core.Option.{Option, none, some}
 use Prim.Native.Nat.{ℕ, ◌+◌, ◌-◌, ◌*◌, ◌%◌, ◌≤◌, ◌<◌}
-use native.Mathlib.Nat.{le_antisymm, add_assoc, add-zero, zero-mul, mod-lt, mod-eq_of_lt, mod-add-mod}
+use native.Mathlib.Nat.{add_assoc, add-zero, zero-mul, mod-lt, mod-eq_of_lt, mod-add-mod}
 use native.Mathlib.Omega.{arith}
 use borrow.Author.Count.{below_more}
 use borrow.Author.Tests.{eq-eqb, ne_eqb}
@@ -17,7 +18,7 @@ use Rattle.step_tables.specs.Merge.{member_at, member_sum, MemberFault, member_f
 use Rattle.step_tables.proofs.StepQuestions.{fault_at}
 use Rattle.merge_questions.specs.Questions.{members_of, Fitting}
 use Rattle.member_check.specs.MemberCheck.{LevelsBelow, every_run, run_fault, as_fault, as_verdict, member_verdict}
-use Rattle.member_check.specs.declared.Fault.TheVariants.{Nowhere, At}
+use Rattle.member_check.specs.declared.Fault.{Fault}
 use Rattle.merge_questions.proofs.Runs.{part_of, member_column, member_level, row_length, row_cell}
 
 -- ---- the members of one run
@@ -78,12 +79,13 @@ module _ (p : ℕ) (cs row : List ℕ) (r : ℕ) where
         rw more (below_more _ (h - 2) right (right_here q))
 
     -- the first that is wrong is found
-    pub wrong_found : h < p + 1 → RightBefore h → (get_or row c 0 ≡ row_sum (h + 1) → ⊥) → At r (h + 1) ≡ as_fault (run_fault p cs (every_run row) r)
+    pub wrong_found : h < p + 1 → RightBefore h → (get_or row c 0 ≡ row_sum (h + 1) → ⊥)
+        → Some (record { run = r; member = h + 1 }) ≡ as_fault (run_fault p cs (every_run row) r)
     unfolding RightBefore run_fault
     wrong_found l right q = sym (ap as_fault (first_at _ (p - 1) (h - 2) _ (omega arith) right (wrong_here q)))
 
   -- no member is wrong
-  pub none_wrong : (h : ℕ) → p + 1 ≤ h → RightBefore h → Nowhere ≡ as_fault (run_fault p cs (every_run row) r)
+  pub none_wrong : (h : ℕ) → p + 1 ≤ h → RightBefore h → None ≡ as_fault (run_fault p cs (every_run row) r)
   unfolding RightBefore run_fault
   none_wrong h l right = sym (ap as_fault (first_none _ (p - 1) (λ k m. right k (omega arith))))
 
@@ -106,20 +108,16 @@ same_fault : (p : ℕ) (cs : List ℕ) (A B : Table) (r h : ℕ)
 unfolding member_fault_at member_sum
 same_fault p cs A B r h e e1 e2 = rw (e, e1, e2)
 
--- the enum says what was found
-nowhere_not_at : (r h : ℕ) → At r h ≡ Nowhere → ⊥
-nowhere_not_at r h e = let z : ◌≡◌ {A = ℕ} 0 1 = cc in omega arith
+-- the code's answer says what was found
+pub at_found : (o : Option MemberFault) (fault : Fault) → Some fault ≡ as_fault o → o ≡ some (record { run = fault.run; member_number = fault.member })
+at_found none fault e = cc
+at_found (some f) fault e =
+    let same : fault ≡ record { run = f.run; member = f.member_number } = cc in
+    ap (λ (x : Fault). some (record { run = x.run; member_number = x.member })) (sym same)
 
-pub at_found : (o : Option MemberFault) (r h : ℕ) → At r h ≡ as_fault o → o ≡ some (record { run = r; member_number = h })
-at_found none r h e = absurd (nowhere_not_at r h e)
-at_found (some f) r h e =
-    let p : r ≡ f.run = cc in
-    let q : h ≡ f.member_number = cc in
-    λ i. some (record { run = sym p i; member_number = sym q i })
-
-pub nowhere_found : (o : Option MemberFault) → Nowhere ≡ as_fault o → o ≡ none
-nowhere_found none e = refl
-nowhere_found (some f) e = absurd (nowhere_not_at _ _ (sym e))
+pub none_found : (o : Option MemberFault) → None ≡ as_fault o → o ≡ none
+none_found none e = refl
+none_found (some f) e = cc
 
 -- a fault that is found in run r names r
 run_named : (p : ℕ) (cs : List ℕ) (S : Table) (r : ℕ) (f : MemberFault) → run_fault p cs S r ≡ some f → r ≡ f.run
@@ -169,22 +167,21 @@ module _ {p : ℕ} {numbers table levels : List ℕ} {runs : ℕ} (fit : Fitting
         same_fault p members (every_run row) sheet r (k + 3)
         (member_cell (k + 3 - 1) (omega arith)) (member_cell 0 (omega arith)) (member_cell 1 (omega (arith, fit.named.least))))
 
-    pub runs_right_next : RightRuns p members sheet r → Nowhere ≡ as_fault (run_fault p members (every_run row) r) → RightRuns p members sheet (r + 1)
+    pub runs_right_next : RightRuns p members sheet r → None ≡ as_fault (run_fault p members (every_run row) r) → RightRuns p members sheet (r + 1)
     unfolding RightRuns
-    runs_right_next right found = below_more _ r right (sym row_fault ∙ nowhere_found _ found)
+    runs_right_next right found = below_more _ r right (sym row_fault ∙ none_found _ found)
 
     -- run r is the first wrong one, and with it r + 1 runs were needed
-    pub runs_wrong : RightRuns p members sheet r → {run number : ℕ} → At run number ≡ as_fault (run_fault p members (every_run row) r)
-        → record { fault = At run number; needed = r + 1 } ≡ member_verdict p members sheet
+    pub runs_wrong : RightRuns p members sheet r → {fault : Fault} → Some fault ≡ as_fault (run_fault p members (every_run row) r)
+        → record { fault = Some fault; needed = r + 1 } ≡ member_verdict p members sheet
     unfolding RightRuns run_fault member_fault member_verdict table_of
-    runs_wrong right {run} {number} found =
-        let there = sym row_fault ∙ at_found _ run number found in
-        ap (λ (n : ℕ). record { fault = At run number; needed = n + 1 }) (run_named p members sheet r _ there)
+    runs_wrong right {fault} found =
+        let there = sym row_fault ∙ at_found _ fault found in
+        ap (λ (n : ℕ). record { fault = Some fault; needed = n + 1 }) (run_named p members sheet r _ there)
         ∙ sym (ap (as_verdict sheet) (first_at _ runs r _ h right there))
 
   -- no run is wrong, and all were needed
-  pub runs_right : (n : ℕ) → n ≤ runs → runs ≤ n → RightRuns p members sheet n → record { fault = Nowhere; needed = n } ≡ member_verdict p members sheet
+  pub runs_right : (n : ℕ) → runs ≤ n → RightRuns p members sheet n → record { fault = None; needed = runs } ≡ member_verdict p members sheet
   unfolding RightRuns run_fault member_fault member_verdict table_of
-  runs_right n most least right =
-      ap (λ (k : ℕ). record { fault = Nowhere; needed = k }) (le_antisymm most least)
-      ∙ sym (ap (as_verdict sheet) (first_none _ runs (λ i h. right i (omega arith))))
+  runs_right n least right =
+      sym (ap (as_verdict sheet) (first_none _ runs (λ i h. right i (omega arith))))

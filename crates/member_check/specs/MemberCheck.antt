@@ -1,11 +1,10 @@
 -- MERGE's question 7 on bytes: what the function that asks it answers (document 01, "Steps by kind", step 4; 02, K4).
-use Rattle.std.specs.Prelude.{◌≡◌, ◌↔◌, List, ℕ, ◌+◌, ◌-◌, ◌≤◌, ◌<◌, length, get_or}
+use Rattle.std.specs.Prelude.{◌≡◌, ◌↔◌, List, ℕ, ◌+◌, ◌-◌, ◌≤◌, ◌<◌, length, get_or, Option as CodeOption, Some, None}
 use Rattle.std.proofs.Math.Option.{Option, none, some}
 use Rattle.finite.specs.First.{first}
 use Rattle.counting.specs.Table.{Table}
 use Rattle.step_tables.specs.Merge.{MemberSums, MemberFault, member_fault_at, member_fault, LowestFault}
 use Rattle.member_check.specs.declared.Fault.{Fault}
-use Rattle.member_check.specs.declared.Fault.TheVariants.{Nowhere, At}
 use Rattle.member_check.specs.declared.MemberVerdict.{MemberVerdict}
 
 -- in one run, every member has a level below p
@@ -21,9 +20,9 @@ unfoldable pub run_fault : ℕ → List ℕ → Table → ℕ → Option MemberF
 run_fault p cs S r = first (p - 1) (λ k. member_fault_at p cs S r (k + 3))
 
 -- what was found, as the code answers it
-abbrev pub as_fault : Option MemberFault → Fault
-as_fault none = Nowhere
-as_fault (some fault) = At fault.run fault.member_number
+abbrev pub as_fault : Option MemberFault → CodeOption Fault
+as_fault none = None
+as_fault (some fault) = Some (record { run = fault.run; member = fault.member_number })
 
 -- how many runs question 7 needs, by what was found: the run of refusal 10 plus 1, or N when all are sums (02, K4)
 abbrev pub runs_needed : Table → Option MemberFault → ℕ

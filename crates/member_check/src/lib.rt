@@ -12,15 +12,15 @@ use merge_questions::column_of;
 
 // A member that is not its sum: the run, from 0, and the member's number, from 1.
 #[derive(Clone, Copy)]
-pub enum Fault {
-    Nowhere,
-    At { run: usize, member: usize },
+pub struct Fault {
+    pub run: usize,
+    pub member: usize,
 }
 
 // What the check of the members comes to: the first fault, and how many runs it needed (02, K4).
 #[derive(Clone, Copy)]
 pub struct MemberVerdict {
-    pub fault: Fault,
+    pub fault: Option<Fault>,
     pub needed: usize,
 }
 
@@ -37,32 +37,25 @@ pub fn check_members(
     ensures runs_needed { RunsNeeded p (members_of members.now) (table_of table.now levels.now runs) result.needed }
 {
     let columns = levels.len();
-    let mut start = 0;
-    let mut run = 0;
-    while run < runs {
-        let end = start + columns;
-        let fault = wrong_in_run(members, p, &table[start..end], run);
-        match fault {
-            Fault::At { run: there, member } => {
-                return MemberVerdict {
-                    fault: Fault::At { run: there, member },
-                    needed: run + 1,
-                };
-            }
-            Fault::Nowhere => {}
+    for run in 0..runs {
+        let start = run * columns;
+        let row = &table[start..start + columns];
+        if let Some(fault) = wrong_in_run(members, p, row, run) {
+            return MemberVerdict {
+                fault: Some(fault),
+                needed: run + 1,
+            };
         }
-        start = end;
-        run += 1;
     }
     MemberVerdict {
-        fault: Fault::Nowhere,
-        needed: run,
+        fault: None,
+        needed: runs,
     }
 }
 
 // The lowest member of one run that is not its sum. The member at h, from 0, is c1 + (h - 1) × c2 modulo p, so each sum is the one before plus c2, and
 // stays below p without a division.
-fn wrong_in_run(members: &[u16], p: usize, row: &[u8], run: usize) -> Fault
+fn wrong_in_run(members: &[u16], p: usize, row: &[u8], run: usize) -> Option<Fault>
     requires named { Named p members.now }
     requires all_below { AllBelow (length row.now) (members_of members.now) }
     requires levels_below { LevelsBelow p (members_of members.now) row.now }
@@ -73,14 +66,12 @@ fn wrong_in_run(members: &[u16], p: usize, row: &[u8], run: usize) -> Fault
     let c2 = column_of(members, 1);
     let mut sum = row[c1];
     let second = row[c2] as u16;
-    let mut h = 2;
-    while h < members.len() {
+    for h in 2..members.len() {
         let column = column_of(members, h);
         sum = modulo_sum(modulus, sum, second);
         if row[column] != sum {
-            return Fault::At { run, member: h + 1 };
+            return Some(Fault { run, member: h + 1 });
         }
-        h += 1;
     }
-    Fault::Nowhere
+    None
 }

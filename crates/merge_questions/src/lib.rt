@@ -16,8 +16,7 @@ pub fn assign_roles(members: &[u16], p: usize, levels: &[u8], roles: &mut [u8]) 
     ensures value { result ≡ merge_fits p (members_of members.now) (table_of [] levels.now 0) }
     ensures has_roles { result ≡ true → HasRoles (members_of members.now) roles.new }
 {
-    let mut h = 0;
-    while h < members.len() {
+    for h in 0..members.len() {
         let column = column_of(members, h);
         if column >= levels.len() {
             return false;
@@ -29,7 +28,6 @@ pub fn assign_roles(members: &[u16], p: usize, levels: &[u8], roles: &mut [u8]) 
             return false;
         }
         roles[column] = if h == 0 { 1 } else { 2 };
-        h += 1;
     }
     true
 }

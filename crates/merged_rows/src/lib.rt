@@ -16,9 +16,7 @@ pub fn find_stops(roles: &[u8], columns: usize, stops: &mut [u8])
     ensures { HasStops roles.now columns stops.new }
 {
     stops[columns] = columns as u8;
-    let mut column = columns;
-    while column > 0 {
-        column -= 1;
+    for column in (0..columns).rev() {
         stops[column] = if roles[column] == 0 {
             stops[column + 1]
         } else {
@@ -45,6 +43,7 @@ pub fn merge_row(
     let mut place = at;
     let mut column = 0;
     let mut stop = stops[0] as usize;
+    // From one stretch to the next, past the member between them: a `for` over the columns would put byte by byte.
     while stop < row.len() {
         place = put_bytes(buf, place, &row[column..stop]);
         place = put_member(buf, place, roles[stop], merged);

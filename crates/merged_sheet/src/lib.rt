@@ -93,15 +93,11 @@ fn merge_runs(
     let c2 = column_of(members, 1);
     let columns = levels.len();
     let mut place = 0;
-    let mut start = 0;
-    let mut run = 0;
-    while run < runs {
-        let end = start + columns;
-        let row = &table[start..end];
+    for run in 0..runs {
+        let start = run * columns;
+        let row = &table[start..start + columns];
         let merged = merged_level(row, p, c1, c2);
         place = merge_row(row, roles, stops, merged, scratch, place);
-        start = end;
-        run += 1;
     }
     place
 }

@@ -1,5 +1,6 @@
 -- MERGE as it stands in the list: its p and members, and what the step comes to question by question.
 -- Assumes nothing.
+use Rattle.std.specs.Prelude.{Option as CodeOption, Some, None}
 use mathlib.Core.Path.{◌≡◌, refl, sym, ◌∙◌, ap, subst}
 use mathlib.Core.Bool.{Bool, true, false, cond}
 use mathlib.Core.List.{List, []}
@@ -26,11 +27,10 @@ use Rattle.merge_questions.specs.Questions.{members_of, Named, Fitting, role_of,
 use Rattle.member_check.specs.MemberCheck.{member_verdict}
 use Rattle.layout.specs.declared.Size.{Size}
 use Rattle.member_check.specs.declared.Fault.{Fault}
-use Rattle.member_check.specs.declared.Fault.TheVariants.{Nowhere, At}
 use Rattle.member_check.specs.declared.MemberVerdict.{MemberVerdict}
 use Rattle.layout.proofs.Sheets.{ready_few, ready_used}
 use Rattle.layout.proofs.Operands.{later_in_lem, operands_stand}
-use Rattle.member_check.proofs.Members.{at_found, nowhere_found}
+use Rattle.member_check.proofs.Members.{at_found, none_found}
 
 true_of : (b : Bool) → T b → b ≡ true
 true_of true t = refl
@@ -104,10 +104,10 @@ module _ (n p : ℕ) (cs : List ℕ) (table levels : List ℕ) (size : Size) whe
     unfolding unless operate fits uneven_matrix applied wrong_member sheet_in merge_fits table_of
     fitting = ap (λ b. cond b (after_sums n (merge_step p cs sheet) (member_fault p cs sheet)) (refused (PartsDoNotFit n))) (sym e)
 
-    pub not_the_sum : {run member : ℕ} → At run member ≡ (member_verdict p cs (table_of table counted size.runs)).fault
-        → operate n sheet (merge p cs) ≡ refused (NotTheSum n run member)
+    pub not_the_sum : {fault : Fault} → Some fault ≡ (member_verdict p cs (table_of table counted size.runs)).fault
+        → operate n sheet (merge p cs) ≡ refused (NotTheSum n fault.run fault.member)
     unfolding after_sums sheet_in member_verdict
-    not_the_sum {run} {member} found = fitting ∙ ap (after_sums n (merge_step p cs sheet)) (at_found (member_fault p cs sheet) run member found)
+    not_the_sum {fault} found = fitting ∙ ap (after_sums n (merge_step p cs sheet)) (at_found (member_fault p cs sheet) fault found)
 
     -- p columns go, and no run comes
     small_next : SmallEnough sheet → small_enough (merge_step p cs sheet) ≡ true
@@ -117,12 +117,12 @@ module _ (n p : ℕ) (cs : List ℕ) (table levels : List ℕ) (size : Size) whe
         ((size_decides (merge_step p cs sheet)).1
         (record { runs_most = small.runs_most; columns_most = omega (arith, merge_columns p cs sheet members_fit, small.columns_most) }))
 
-    pub all_sums : SmallEnough sheet → Nowhere ≡ (member_verdict p cs (table_of table counted size.runs)).fault
+    pub all_sums : SmallEnough sheet → None ≡ (member_verdict p cs (table_of table counted size.runs)).fault
         → operate n sheet (merge p cs) ≡ filled (merge_step p cs sheet)
     unfolding after_sums sized sheet_in member_verdict
     all_sums small found =
         fitting
-        ∙ ap (after_sums n (merge_step p cs sheet)) (nowhere_found (member_fault p cs sheet) found)
+        ∙ ap (after_sums n (merge_step p cs sheet)) (none_found (member_fault p cs sheet) found)
         ∙ ap (λ b. cond b (filled (merge_step p cs sheet)) (refused (TooLarge n (merge_step p cs sheet).runs (columns (merge_step p cs sheet))))) (small_next small)
 
 -- ---- the same of a step that stands in the list, where the sheet is ready
@@ -156,16 +156,16 @@ module _ {list : List ℕ} {at : ℕ} {size : Size} {table levels scratch : List
 
     -- the verdict on the members
     module _ {verdict : MemberVerdict} (is : verdict ≡ member_verdict p cs (table_of table (take size.columns levels) size.runs)) (n : ℕ) where
-      fault_is : {fault : Fault} → verdict.fault ≡ fault → fault ≡ (member_verdict p cs (table_of table (take size.columns levels) size.runs)).fault
+      fault_is : {fault : CodeOption Fault} → verdict.fault ≡ fault → fault ≡ (member_verdict p cs (table_of table (take size.columns levels) size.runs)).fault
       fault_is there = sym there ∙ ap (λ (v : MemberVerdict). v.fault) is
 
-      pub merge_wrong : {run number : ℕ} → verdict.fault ≡ At run number
-          → Left (later_in list n (sheet_in table levels size) 4 at) table levels (Refused (NotTheSum n run number)) table levels
+      pub merge_wrong : {fault : Fault} → verdict.fault ≡ Some fault
+          → Left (later_in list n (sheet_in table levels size) 4 at) table levels (Refused (NotTheSum n fault.run fault.member)) table levels
       unfolding Left
       merge_wrong there =
           rw (merge_in ready.readable stands n (sheet_in table levels size), not_the_sum n p cs table levels size e (fault_is there)) (refl, refl, refl)
 
-      pub merge_done : verdict.fault ≡ Nowhere → (answer : Answer) (table' levels' : List ℕ)
+      pub merge_done : verdict.fault ≡ None → (answer : Answer) (table' levels' : List ℕ)
           → Left (filled (merge_step p cs (sheet_in table levels size))) table levels answer table' levels'
           → Left (later_in list n (sheet_in table levels size) 4 at) table levels answer table' levels'
       merge_done there answer table' levels' left =

@@ -5,12 +5,13 @@ ghost use Rattle.layout.specs.Bytes.{Zeros, sheet_in};
 ghost use Rattle.layout.specs.Step.{Stands, Ready, Left, later_in};
 
 use layout::Size;
-use member_check::{Fault, check_members};
+use member_check::check_members;
 use merge_questions::assign_roles;
 use merged_sheet::merge_sheet;
 use sheets::answer::{Answer, Refusal};
 
 // Carries out step number `number`, whose operands stand from place `at` on. Question 8 is never answered No: p columns go, and no run comes.
+#[tactic(auto, using(crate::proofs::Operands::merge_end))]
 pub fn merge(
     list: &[u16],
     at: usize,
@@ -36,13 +37,12 @@ pub fn merge(
         return Answer::Refused(Refusal::PartsDoNotFit { step: number });
     }
     let verdict = check_members(members, p, table, &levels[..columns], runs);
-    let fault = verdict.fault;
-    match fault {
-        Fault::At { run, member } => Answer::Refused(Refusal::NotTheSum {
+    if let Some(fault) = verdict.fault {
+        return Answer::Refused(Refusal::NotTheSum {
             step: number,
-            run,
-            member,
-        }),
-        Fault::Nowhere => merge_sheet(members, p, &roles, size, table, levels, scratch),
+            run: fault.run,
+            member: fault.member,
+        });
     }
+    merge_sheet(members, p, &roles, size, table, levels, scratch)
 }

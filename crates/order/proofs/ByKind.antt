@@ -11,7 +11,7 @@ use Rattle.order.specs.Reader.{value, Reader, when, allowed, repeated}
 use Rattle.order.specs.Grammar.{between, counted}
 use Rattle.order.specs.Answers.{number_of}
 use Rattle.order.specs.declared.Cursor.{Cursor}
-use Rattle.order.specs.declared.Number.TheVariants.{Is}
+use Rattle.std.specs.Prelude.{Ok}
 use Rattle.order.proofs.Answers.{number_value}
 use Rattle.order.proofs.Tests.{between_iff}
 use Rattle.order.proofs.Segment.{Segment, join}
@@ -37,7 +37,7 @@ module _ {A : Type 0} {r : Reader A} {P : A → Type 0} {w : List A → List ℕ
   counted_law = record { sound = counted_sound; complete = counted_complete }
 
 -- What a number that was read says.
-pub between_read : (low high : ℕ) (list : List ℕ) (at : ℕ) {x : ℕ} {next : Cursor} → number_of (allowed (between low high) list at) ≡ Is x next → Between low high x × (next.at ≡ at + 1)
+pub between_read : (low high : ℕ) (list : List ℕ) (at : ℕ) {x : ℕ} {next : Cursor} → number_of (allowed (between low high) list at) ≡ Ok (x, next) → Between low high x × (next.at ≡ at + 1)
 between_read low high list at {x} {next} e =
     let read = (between_law low high).sound list at x next.at (number_value (allowed (between low high) list at) e) in
     (read.0, read.1.after)

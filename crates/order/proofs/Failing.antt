@@ -7,19 +7,20 @@ use native.Mathlib.Nat.{add-zero, zero-add, suc-add, add_assoc}
 use native.Mathlib.Omega.{arith}
 use Rattle.order.specs.Reader.{when}
 use Rattle.order.specs.Range.{first_failing, earlier, is_in_range}
-use Rattle.order.specs.declared.Entries.{Entries}
-use Rattle.order.specs.declared.Entries.TheVariants.{InRange, OutOfRange}
+use Rattle.order.specs.declared.RangeFault.{RangeFault}
+use Rattle.std.specs.Prelude.{Result, Ok, Err}
+use Rattle.order.specs.declared.RangeFault.TheVariants.{OutOfRange}
 
 module _ (ok : ℕ → Bool) (start : ℕ) where
   pub failing_on : (left q : ℕ) → 0 < left → ok q ≡ true → first_failing ok start left q ≡ first_failing ok start (left - 1) (q + 1)
   failing_on zero q h e = absurd (omega arith)
   failing_on (suc left) q h e = let less : suc left - 1 ≡ left = omega arith in rw (less, e)
 
-  pub failing_stop : (left q : ℕ) → 0 < left → ok q ≡ false → first_failing ok start left q ≡ OutOfRange (start + q)
+  pub failing_stop : (left q : ℕ) → 0 < left → ok q ≡ false → first_failing ok start left q ≡ Err (OutOfRange (start + q))
   failing_stop zero q h e = absurd (omega arith)
   failing_stop (suc left) q h e = rw e
 
-  pub failing_done : (left q : ℕ) → left ≤ 0 → first_failing ok start left q ≡ InRange
+  pub failing_done : (left q : ℕ) → left ≤ 0 → first_failing ok start left q ≡ Ok tt
   failing_done zero q h = refl
   failing_done (suc left) q h = absurd (omega arith)
 
@@ -29,7 +30,7 @@ module _ (ok : ℕ → Bool) (start : ℕ) where
   failing_all all zero q h = absurd (omega arith)
   failing_all all (suc left) q h = let less : suc left - 1 ≡ left = omega arith in rw less (go all (ok q) (first_failing ok start left (q + 1)))
     where
-      go : (all here : Bool) (rest : Entries) → ((all && here) && is_in_range rest) ≡ (all && is_in_range (when here rest (OutOfRange (start + q))))
+      go : (all here : Bool) (rest : Result (Unit {0}) RangeFault) → ((all && here) && is_in_range rest) ≡ (all && is_in_range (when here rest (Err (OutOfRange (start + q)))))
       go true true rest = refl
       go true false rest = refl
       go false here rest = refl
@@ -42,8 +43,8 @@ module _ (ok : ℕ → Bool) (start : ℕ) where
       let next : q + suc left ≡ q + 1 + left = omega arith in
       rw (suc-add, next) (go (ok q) _ _ (failing_parts left more (q + 1)))
     where
-      go : (b : Bool) {rest : Entries} (part after : Entries) → rest ≡ earlier part after →
-          when b rest (OutOfRange (start + q)) ≡ earlier (when b part (OutOfRange (start + q))) after
+      go : (b : Bool) {rest : Result (Unit {0}) RangeFault} (part after : Result (Unit {0}) RangeFault) → rest ≡ earlier part after →
+          when b rest (Err (OutOfRange (start + q))) ≡ earlier (when b part (Err (OutOfRange (start + q)))) after
       go true part after e = e
       go false part after e = refl
 
@@ -61,11 +62,11 @@ module _ (ok : ℕ → Bool) (start : ℕ) where
   one_less left q all j h = let same : q + 1 + j ≡ q + suc j = omega arith in rw same (all (suc j) (omega arith))
 
   -- None fails exactly where all pass.
-  pub failing_none : (left q : ℕ) → (first_failing ok start left q ≡ InRange) ↔ ((j : ℕ) → j < left → ok (q + j) ≡ true)
+  pub failing_none : (left q : ℕ) → (first_failing ok start left q ≡ Ok tt) ↔ ((j : ℕ) → j < left → ok (q + j) ≡ true)
   failing_none zero q = (λ e j h. absurd (omega arith), λ h. refl)
   failing_none (suc left) q = go (ok q) refl (failing_none left (q + 1))
     where
-      go : (b : Bool) → ok q ≡ b → (first_failing ok start left (q + 1) ≡ InRange) ↔ ((j : ℕ) → j < left → ok (q + 1 + j) ≡ true) → (when b (first_failing ok start left (q + 1)) (OutOfRange (start + q)) ≡ InRange) ↔ ((j : ℕ) → j < suc left → ok (q + j) ≡ true)
+      go : (b : Bool) → ok q ≡ b → (first_failing ok start left (q + 1) ≡ Ok tt) ↔ ((j : ℕ) → j < left → ok (q + 1 + j) ≡ true) → (when b (first_failing ok start left (q + 1)) (Err (OutOfRange (start + q))) ≡ Ok tt) ↔ ((j : ℕ) → j < suc left → ok (q + j) ≡ true)
       go true e rest = (λ h. one_more left q e (rest.0 h), λ all. rest.1 (one_less left q all))
       go false e rest = (
         λ h. absurd (let z : ◌≡◌ {A = ℕ} 0 1 = cc in omega arith),

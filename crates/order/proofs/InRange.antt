@@ -1,5 +1,6 @@
 -- Question 3: the definition's answer is that all entries are in range exactly where every entry is.
 use mathlib.Core.Path.{◌≡◌, refl}
+use Rattle.std.specs.Prelude.{Result, Ok, Err}
 use mathlib.Core.Logic.{◌↔◌}
 use mathlib.Core.Bool.{Bool}
 use mathlib.Core.List.{List, [], ◌∷◌}
@@ -13,20 +14,18 @@ use Rattle.order.specs.Order.{Ingredient, Order, All, written_ingredient, entrie
 use Rattle.order.specs.Grammar.{read_order, Reads}
 use Rattle.order.specs.Answers.{entries_from}
 use Rattle.order.specs.Range.{bound, EntriesInRange, ingredient_range, earlier, ingredients_range, range_of}
-use Rattle.order.specs.declared.Entries.{Entries}
-use Rattle.order.specs.declared.Entries.TheVariants.{InRange, OutOfRange, Unread}
+use Rattle.order.specs.declared.RangeFault.{RangeFault}
 use Rattle.order.proofs.Failing.{failing_none}
 
 -- An answer that goes on is in range where both are.
-or_iff : (a b : Entries) → (earlier a b ≡ InRange) ↔ (a ≡ InRange) × (b ≡ InRange)
-or_iff InRange b = (λ e. (refl, e), λ h. h.1)
-or_iff (OutOfRange place) b = (λ e. absurd (let z : ◌≡◌ {A = ℕ} 0 1 = cc in omega arith), λ h. h.0)
-or_iff Unread b = (λ e. absurd (let z : ◌≡◌ {A = ℕ} 0 1 = cc in omega arith), λ h. h.0)
+or_iff : (a b : Result (Unit {0}) RangeFault) → (earlier a b ≡ Ok tt) ↔ (a ≡ Ok tt) × (b ≡ Ok tt)
+or_iff (Ok tt) b = (λ e. (refl, e), λ h. h.1)
+or_iff (Err fault) b = (λ e. absurd (let z : ◌≡◌ {A = ℕ} 0 1 = cc in omega arith), λ h. h.0)
 
 abbrev pub Within : Ingredient → Type 0
 Within g = (q : ℕ) → q < length (entries_of g) → get_or (entries_of g) q 0 < bound g q
 
-pub ingredient_iff : (from : ℕ) (g : Ingredient) → (ingredient_range from g ≡ InRange) ↔ Within g
+pub ingredient_iff : (from : ℕ) (g : Ingredient) → (ingredient_range from g ≡ Ok tt) ↔ Within g
 unfolding ingredient_range
 ingredient_iff from g =
     let ok : ℕ → Bool = λ q. ltb (get_or (entries_of g) q 0) (bound g q) in
@@ -35,7 +34,7 @@ ingredient_iff from g =
       λ h. all.1 (λ q below. rw zero-add (lt-ltb _ _ (h q below))),
     )
 
-ingredients_iff : (at : ℕ) (gs : List Ingredient) → (ingredients_range at gs ≡ InRange) ↔ All Within gs
+ingredients_iff : (at : ℕ) (gs : List Ingredient) → (ingredients_range at gs ≡ Ok tt) ↔ All Within gs
 ingredients_iff at [] = (λ e. tt, λ h. refl)
 ingredients_iff at (g ∷ gs) =
     let one = ingredient_iff (at + 3) g in
@@ -46,6 +45,6 @@ ingredients_iff at (g ∷ gs) =
     )
 
 -- The answer to question 3 is that all are in range exactly where every entry of every ingredient is.
-pub range_iff : (list : List ℕ) (o : Order) → Reads list o → (range_of (read_order list) ≡ InRange) ↔ EntriesInRange o
+pub range_iff : (list : List ℕ) (o : Order) → Reads list o → (range_of (read_order list) ≡ Ok tt) ↔ EntriesInRange o
 unfolding range_of
 range_iff list o e = rw e (ingredients_iff 1 o.ingredients)

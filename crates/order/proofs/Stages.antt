@@ -10,9 +10,7 @@ use Rattle.order.specs.Reader.{value, allowed}
 use Rattle.order.specs.Grammar.{between, sum_operands, read_sum, step_of, read_step}
 use Rattle.order.specs.Answers.{number_of, walk_of, kind_of, stage_of}
 use Rattle.order.specs.declared.Cursor.{Cursor}
-use Rattle.order.specs.declared.Number.TheVariants.{Is}
-use Rattle.order.specs.declared.Walk.TheVariants.{On}
-use Rattle.order.specs.declared.Stage.TheVariants.{Found}
+use Rattle.std.specs.Prelude.{Ok}
 use Rattle.order.proofs.Segment.{Segment, segment_at, number_is}
 use Rattle.order.proofs.ByKind.{between_law}
 use Rattle.order.proofs.StepLaw.{step_law}
@@ -45,7 +43,7 @@ module _ (list : List ℕ) (at : ℕ) where
   unfolding read_sum
   sum_ends = walk_last (λ s. SUM s.0 s.1) (sum_operands list at) refl
 
-  pub stage_found : {kind : ℕ} {next end : Cursor} → number_of (allowed (between 1 6) list at) ≡ Is kind next → walk_of (step_of kind list next.at) ≡ On end → Found kind next.at end ≡ stage_of (at + 1) (read_step list at)
+  pub stage_found : {kind : ℕ} {next end : Cursor} → number_of (allowed (between 1 6) list at) ≡ Ok (kind, next) → walk_of (step_of kind list next.at) ≡ Ok end → Ok (record { kind = kind; operands_at = next.at }, end) ≡ stage_of (at + 1) (read_step list at)
   unfolding read_step stage_of
   stage_found {kind} {next} {end} e₁ e₂ =
       let v₁ = number_value (allowed (between 1 6) list at) e₁ in

@@ -3,24 +3,19 @@
 // `step_places` and `entry_range` have the code.
 #![tactic(auto)]
 
+ghost use Rattle.std.specs.Prelude.{◌≡◌};
+ghost use Rattle.order.specs.declared.RangeFault.TheVariants.{Unread};
+
 // A place in the list.
 #[derive(Clone, Copy)]
 pub struct Cursor {
     pub at: usize,
 }
 
-// A number that is allowed, with the place after it, or the place where the list is refused.
+// The place where the list is refused.
 #[derive(Clone, Copy)]
-pub enum Number {
-    Is { value: usize, next: Cursor },
-    Refused { place: usize },
-}
-
-// The place after what was read, or the place where the list is refused.
-#[derive(Clone, Copy)]
-pub enum Walk {
-    On { next: Cursor },
-    Refused { place: usize },
+pub struct Refused {
+    pub place: usize,
 }
 
 // An ingredient of the list: its sizes, and the places where its level counts or widths and its entries start.
@@ -47,42 +42,28 @@ pub enum Located {
         width: usize,
         entries_at: usize,
     },
-    // There is no such ingredient.
-    Missing,
 }
 
-// An ingredient that was read, with the place after it, or the place where the list is refused.
+// A step that was read: its kind, and the place where its operands start.
 #[derive(Clone, Copy)]
-pub enum Spot {
-    Found { what: Located, next: Cursor },
-    Refused { place: usize },
+pub struct Stage {
+    pub kind: usize,
+    pub operands_at: usize,
 }
 
-// A step that was read: its kind, the place where its operands start and the place after it; or the place where the list is refused.
+// Why the answer to question 3 is not yes.
 #[derive(Clone, Copy)]
-pub enum Stage {
-    Found {
-        kind: usize,
-        operands_at: usize,
-        next: Cursor,
-    },
-    Refused {
-        place: usize,
-    },
-}
-
-// Whether the list reads as an order (question 2), and if not, where it is refused.
-#[derive(Clone, Copy)]
-pub enum Reading {
-    Reads,
-    Refused { place: usize },
-}
-
-// Whether every entry is below its levels, p or s (question 3), and if not, where the first stands that is not.
-#[derive(Clone, Copy)]
-pub enum Entries {
-    InRange,
+pub enum RangeFault {
+    // The first entry that is not below its levels, p or s stands here.
     OutOfRange { place: usize },
     // The list does not read, so the question is not asked.
     Unread,
+}
+
+impl From<Refused> for RangeFault {
+    ghost from_gives = { λ _ fault. fault ≡ Unread };
+
+    fn from(_refusal: Refused) -> RangeFault {
+        RangeFault::Unread
+    }
 }

@@ -12,13 +12,14 @@ use borrow.Author.Tests.{lt-ltb, le-ltb, ltb-true, ltb-false}
 use lib.Dec.{ltb}
 use lib.ListN.{length, get_or, take, drop, length-append, length-take, length-drop}
 use lib.Seq.{get_or-take, get_or-drop}
+use Rattle.std.specs.Prelude.{Result, Ok, Err}
 use Rattle.order.specs.Order.{Ingredient, entries_of, Order, All, written_ingredient, written_step, written_all, written}
 use Rattle.order.specs.Reader.{when}
 use Rattle.order.specs.Grammar.{read_order, Reads}
 use Rattle.order.specs.Answers.{entries_from}
 use Rattle.order.specs.Range.{bound, first_failing, ingredient_range, earlier, ingredients_range, range_of}
-use Rattle.order.specs.declared.Entries.{Entries}
-use Rattle.order.specs.declared.Entries.TheVariants.{InRange, OutOfRange, Unread}
+use Rattle.order.specs.declared.RangeFault.{RangeFault}
+use Rattle.order.specs.declared.RangeFault.TheVariants.{OutOfRange, Unread}
 use Rattle.order.proofs.Segment.{Segment, segment_whole, part_left, part_right}
 use Rattle.order.proofs.OrderLaw.{reads_iff}
 use Rattle.places.proofs.Stands.{entries_stand}
@@ -34,7 +35,7 @@ record FirstFails (ok : ℕ → Bool) (start left q place : ℕ) : Type 0 where
   fails : ok number ≡ false
   passed : (r : ℕ) → q ≤ r → r < number → ok r ≡ true
 
-not_in_range : {place : ℕ} → InRange ≡ OutOfRange place → ⊥
+not_in_range : {place : ℕ} → ◌≡◌ {A = Result (Unit {0}) RangeFault} (Ok tt) (Err (OutOfRange place)) → ⊥
 not_in_range e = let z : ◌≡◌ {A = ℕ} 0 1 = cc in omega arith
 
 -- What the search finds is the first.
@@ -53,13 +54,13 @@ module _ (ok : ℕ → Bool) (start : ℕ) where
         ];
       }
 
-  found : (left q : ℕ) {place : ℕ} → first_failing ok start left q ≡ OutOfRange place → FirstFails ok start left q place
+  found : (left q : ℕ) {place : ℕ} → first_failing ok start left q ≡ Err (OutOfRange place) → FirstFails ok start left q place
   found zero q e = absurd (not_in_range e)
   found (suc left) q {place} e = go (ok q) refl (λ e. found left (q + 1) e) e
     where
       go : (b : Bool) → ok q ≡ b
-          → (first_failing ok start left (q + 1) ≡ OutOfRange place → FirstFails ok start left (q + 1) place)
-          → when b (first_failing ok start left (q + 1)) (OutOfRange (start + q)) ≡ OutOfRange place
+          → (first_failing ok start left (q + 1) ≡ Err (OutOfRange place) → FirstFails ok start left (q + 1) place)
+          → when b (first_failing ok start left (q + 1)) (Err (OutOfRange (start + q))) ≡ Err (OutOfRange place)
           → FirstFails ok start (suc left) q place
       go true h rest e = one_earlier left q h (rest e)
       go false h rest e =
@@ -67,10 +68,10 @@ module _ (ok : ℕ → Bool) (start : ℕ) where
           record { number = q; from = le_refl q; upto = omega arith; there = sym same; fails = h; passed = λ r low high. absurd (omega arith) }
 
   -- Number q is found where it fails and all before it pass.
-  finds : (q count : ℕ) → q < count → ((r : ℕ) → r < q → ok r ≡ true) → ok q ≡ false → first_failing ok start count 0 ≡ OutOfRange (start + q)
+  finds : (q count : ℕ) → q < count → ((r : ℕ) → r < q → ok r ≡ true) → ok q ≡ false → first_failing ok start count 0 ≡ Err (OutOfRange (start + q))
   finds q count inside passed fails =
       let parts : count ≡ q + (count - q) = omega arith in
-      let none : first_failing ok start q 0 ≡ InRange = (failing_none ok start q 0).1 (λ r h. rw zero-add (passed r h)) in
+      let none : first_failing ok start q 0 ≡ Ok tt = (failing_none ok start q 0).1 (λ r h. rw zero-add (passed r h)) in
       ap (λ (n : ℕ). first_failing ok start n 0) parts
       ∙ failing_parts ok start q (count - q) 0
       ∙ rw (none, zero-add) (failing_stop ok start (count - q) q (omega arith) fails)
@@ -80,7 +81,7 @@ module _ (from : ℕ) (g : Ingredient) where
   abbrev is_inside : ℕ → Bool
   is_inside q = ltb (get_or (entries_of g) q 0) (bound g q)
 
-  inside_iff : (ingredient_range from g ≡ InRange) ↔ IngredientInRange g
+  inside_iff : (ingredient_range from g ≡ Ok tt) ↔ IngredientInRange g
   unfolding ingredient_range
   inside_iff =
       let all = failing_none is_inside (entries_from from g) (length (entries_of g)) 0 in (
@@ -88,14 +89,14 @@ module _ (from : ℕ) (g : Ingredient) where
         λ h. all.1 (λ q below. rw zero-add (lt-ltb _ _ (h q below))),
       )
 
-  entry_found : {place : ℕ} → ingredient_range from g ≡ OutOfRange place → FirstFails is_inside (entries_from from g) (length (entries_of g)) 0 place
+  entry_found : {place : ℕ} → ingredient_range from g ≡ Err (OutOfRange place) → FirstFails is_inside (entries_from from g) (length (entries_of g)) 0 place
   unfolding ingredient_range
   entry_found e = found is_inside (entries_from from g) (length (entries_of g)) 0 e
 
   entry_finds : (q : ℕ) → q < length (entries_of g)
       → ((r : ℕ) → r < q → EntryInRange g r)
       → bound g q ≤ get_or (entries_of g) q 0
-      → ingredient_range from g ≡ OutOfRange (entries_from from g + q)
+      → ingredient_range from g ≡ Err (OutOfRange (entries_from from g + q))
   unfolding ingredient_range
   entry_finds q inside earlier high =
       finds is_inside (entries_from from g) q (length (entries_of g)) inside (λ r h. lt-ltb _ _ (earlier r h)) (le-ltb _ _ high)
@@ -108,10 +109,10 @@ one_more : (at : ℕ) (g : Ingredient) (before : List Ingredient) → place_afte
 one_more at g before = omega (arith, length-append (written_ingredient g) (written_all written_ingredient before))
 
 -- The ingredient with the first entry out of range: all before it are in range.
-ingredient_found : {C : Type 0} (at : ℕ) (gs : List Ingredient) {place : ℕ} → ingredients_range at gs ≡ OutOfRange place
+ingredient_found : {C : Type 0} (at : ℕ) (gs : List Ingredient) {place : ℕ} → ingredients_range at gs ≡ Err (OutOfRange place)
     → ((before : List Ingredient) (g : Ingredient) (after : List Ingredient) → gs ≡ before ++ g ∷ after
     → All IngredientInRange before
-    → ingredient_range (place_after at before + 3) g ≡ OutOfRange place
+    → ingredient_range (place_after at before + 3) g ≡ Err (OutOfRange place)
     → C)
     → C
 ingredient_found at [] e k = absurd (not_in_range e)
@@ -122,17 +123,17 @@ ingredient_found {C} at (g ∷ gs) {place} e k =
     k (g ∷ before) g' after (ap (λ xs. g ∷ xs) same) (inside, all) (rw (← one_more at g before) range))
     e
   where
-    go : (x : Entries) → ingredient_range (at + 3) g ≡ x
-        → (IngredientInRange g → ingredients_range (at + length (written_ingredient g)) gs ≡ OutOfRange place → C)
-        → earlier x (ingredients_range (at + length (written_ingredient g)) gs) ≡ OutOfRange place
+    go : (x : Result (Unit {0}) RangeFault) → ingredient_range (at + 3) g ≡ x
+        → (IngredientInRange g → ingredients_range (at + length (written_ingredient g)) gs ≡ Err (OutOfRange place) → C)
+        → earlier x (ingredients_range (at + length (written_ingredient g)) gs) ≡ Err (OutOfRange place)
         → C
-    go InRange h rest e = rest ((inside_iff (at + 3) g).0 h) e
-    go (OutOfRange there) h rest e = k [] g gs refl tt (rw add-zero (h ∙ e))
-    go Unread h rest e = absurd (let z : ◌≡◌ {A = ℕ} 0 1 = cc in omega arith)
+    go (Ok tt) h rest e = rest ((inside_iff (at + 3) g).0 h) e
+    go (Err (OutOfRange there)) h rest e = k [] g gs refl tt (rw add-zero (h ∙ e))
+    go (Err Unread) h rest e = absurd (let z : ◌≡◌ {A = ℕ} 0 1 = cc in omega arith)
 
 ingredient_finds : (at : ℕ) (before : List Ingredient) (g : Ingredient) (after : List Ingredient) {place : ℕ} → All IngredientInRange before
-    → ingredient_range (place_after at before + 3) g ≡ OutOfRange place
-    → ingredients_range at (before ++ g ∷ after) ≡ OutOfRange place
+    → ingredient_range (place_after at before + 3) g ≡ Err (OutOfRange place)
+    → ingredients_range at (before ++ g ∷ after) ≡ Err (OutOfRange place)
 ingredient_finds at [] g after all range = rw (rw add-zero at range)
 ingredient_finds at (b ∷ before) g after all range =
     rw ((inside_iff (at + 3) b).1 all.0)
@@ -147,7 +148,7 @@ all_parted (g ∷ before) more = rw (all_parted before more) (sym (append_assoc 
 -- Question 3 is asked of an order that was read.
 module _ (list : List ℕ) (o : Order) (reads : Reads list o) where
   -- A refusal has its cause.
-  pub out_of_range : (place : ℕ) → range_of (read_order list) ≡ OutOfRange place → FirstOutOfRange o place
+  pub out_of_range : (place : ℕ) → range_of (read_order list) ≡ Err (OutOfRange place) → FirstOutOfRange o place
   unfolding range_of
   out_of_range place e =
       ingredient_found 1 o.ingredients (rw reads at e) λ before g after same all range.
@@ -165,14 +166,14 @@ module _ (list : List ℕ) (o : Order) (reads : Reads list o) where
         earlier_ingredients = all;
       }
 
-  first_found : {place : ℕ} → FirstOutOfRange o place → range_of (read_order list) ≡ OutOfRange place
+  first_found : {place : ℕ} → FirstOutOfRange o place → range_of (read_order list) ≡ Err (OutOfRange place)
   unfolding range_of
   first_found f =
       let range = entry_finds (place_after 1 f.before + 3) f.ingredient f.q f.entry f.earlier_entries f.out_of_range in
       rw (reads, f.one_of, f.stands) (ingredient_finds 1 f.before f.ingredient f.after f.earlier_ingredients range)
 
   -- The meaning of refusal 3.
-  pub out_of_range_iff : (place : ℕ) → (range_of (read_order list) ≡ OutOfRange place) ↔ FirstOutOfRange o place
+  pub out_of_range_iff : (place : ℕ) → (range_of (read_order list) ≡ Err (OutOfRange place)) ↔ FirstOutOfRange o place
   out_of_range_iff place = (out_of_range place, first_found)
 
   -- An ingredient stands after those before it,

@@ -7,6 +7,7 @@ use native.Mathlib.Nat.{not-suc-le-zero}
 use native.Mathlib.Omega.{arith}
 use lib.ListN.{length, get_or, take}
 use Rattle.words.specs.Words.{numbers, refused, reading}
+use Rattle.whole_text.proofs.Whole.{scanned}
 use Rattle.page_argument.specs.PageArgument.{sole_number, asked_by}
 use Rattle.page_argument.specs.declared.Asked.TheVariants.{One}
 
@@ -30,3 +31,5 @@ asked_numbers argument e = rw e
 pub asked_refused : (argument : List ℕ) {place : ℕ} → reading argument ≡ refused place → One 0 ≡ asked_by argument
 unfolding asked_by
 asked_refused argument e = rw e
+
+pub ruleset asked = (scanned, asked_numbers, asked_refused)

@@ -9,7 +9,7 @@ pub fn page_count(runs: usize, columns: usize) -> usize
     requires { (runs ≤ 512) × (columns ≤ 128) }
     ensures { result ≡ page_count runs columns }
 {
-    run_parts(runs) * ((columns + 24) / 25)
+    run_parts(runs) * columns.div_ceil(25)
 }
 
 // How many pages the runs take that 25 columns have.
@@ -17,5 +17,5 @@ pub fn run_parts(runs: usize) -> usize
     requires { runs ≤ 512 }
     ensures { result ≡ parts 58 runs }
 {
-    (runs + 57) / 58
+    runs.div_ceil(58)
 }

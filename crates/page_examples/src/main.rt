@@ -13,24 +13,24 @@ ghost use Rattle.std.specs.Prelude.{◌≡◌, ◌≤◌, ◌<◌, length};
 use input::scan_input;
 use paging::print_page;
 use std::io;
-use stored_calls::{least, number_at};
+use stored_calls::number_at;
 use stored_sheets::{StoredSheet, repeat, sheet_at};
-use words::Scanned;
 
 fn main(rt: HostRuntime) -> io::Result<()> {
     let mut list = [0u16; 32768];
     match scan_input(&mut rt.stdin(), &mut list) {
-        Scanned::Numbers { count } => answer_calls(&rt, &list, count),
-        Scanned::Refused { place: _ } => Ok(()),
+        Ok(count) => answer_calls(&rt, &list, count),
+        Err(_) => Ok(()),
     }
 }
 
-// Answers the calls that so many numbers at the front of a list hold, one after the other.
+// Answers the calls that so many numbers at the front of a list hold, one after the other. It is a `while`, since each
+// call says where the next one stands.
 fn answer_calls(rt: &impl Print, list: &[u16], count: usize) -> io::Result<()>
     requires { length list.now ≡ 32768 }
 {
     let mut at = 0;
-    while at < least(count, 32768) {
+    while at < count.min(32768) {
         at = answer_call(rt, list, at);
     }
     Ok(())
@@ -41,7 +41,7 @@ fn answer_call(rt: &impl Print, list: &[u16], at: usize) -> usize
     requires { at < 32768 }
     ensures { at < result }
 {
-    let room = least(number_at(list, at + 3), 8192);
+    let room = number_at(list, at + 3).min(8192);
     let sheet = sheet_at(list, at + 4);
     match make_call(rt, list, at, sheet, room) {
         Ok(()) => {}
@@ -147,21 +147,5 @@ fn write_page(rt: &impl Print, bytes: &[u8]) -> io::Result<()> {
 
 // How many bytes from a place on are not zero.
 fn count_others(bytes: &[u8], start: usize) -> usize {
-    let mut i = start;
-    let mut others = 0;
-    while i < bytes.len() {
-        others += other(bytes[i]);
-        i += 1;
-    }
-    others
-}
-
-// 1 for a byte that is not zero.
-fn other(byte: u8) -> usize
-    ensures { result ≤ 1 }
-{
-    if byte == 0 {
-        return 0;
-    }
-    1
+    bytes.iter().skip(start).filter(|byte| **byte != 0).count()
 }

@@ -89,16 +89,11 @@ module _ (N m n : ℕ) {b : ℕ} (blocks : b ≡ parts 58 N) (some : 1 ≤ N) (o
   unfolding first_column
   column_small = rw blocks (first_column_there N m n some one most)
 
-  -- the last columns, and 25 of them
-  pub part_last : m - (n - 1) / b * 25 < 25 → ◌≡◌ {A = Part} (record { run = (n - 1) % b * 58; column = (n - 1) / b * 25; end = m }) (part_of N m n)
+  -- up to 25 columns
+  pub part_is : {end : ℕ} → end ≡ min m ((n - 1) / b * 25 + 25) → ◌≡◌ {A = Part} (record { run = (n - 1) % b * 58; column = (n - 1) / b * 25; end = end }) (part_of N m n)
   unfolding part_of first_run first_column
-  part_last h =
-      let ends : (n - 1) / b * 25 + min 25 (m - (n - 1) / b * 25) ≡ m = omega (arith, column_small) in rw (← blocks, ends)
-
-  pub part_full : 25 ≤ m - (n - 1) / b * 25 → ◌≡◌ {A = Part} (record { run = (n - 1) % b * 58; column = (n - 1) / b * 25; end = (n - 1) / b * 25 + 25 }) (part_of N m n)
-  unfolding part_of first_run first_column
-  part_full h =
-      let full : min 25 (m - (n - 1) / b * 25) ≡ 25 = omega arith in rw (← blocks, full)
+  part_is {end} e =
+      let ends : (n - 1) / b * 25 + min 25 (m - (n - 1) / b * 25) ≡ end = omega (arith, column_small, e) in rw (← blocks, ends)
 
 -- ---- lines one after the other
 

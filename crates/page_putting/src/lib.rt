@@ -51,17 +51,10 @@ fn page_part(runs: usize, columns: usize, number: usize) -> Part
     let blocks = run_parts(runs);
     let run = (number - 1) % blocks * 58;
     let column = (number - 1) / blocks * 25;
-    if columns - column < 25 {
-        return Part {
-            run,
-            column,
-            end: columns,
-        };
-    }
     Part {
         run,
         column,
-        end: column + 25,
+        end: columns.min(column + 25),
     }
 }
 
@@ -79,10 +72,8 @@ fn put_run_lines(
     ensures { Put buf.old at (flat_map (λ k. part_line runs columns table.now part (part.run + k)) (from 0 58)) buf.new result }
 {
     let mut place = at;
-    let mut k = 0;
-    while k < 58 {
+    for k in 0..58 {
         place = put_run_or_blank(table, runs, columns, part, part.run + k, buf, place);
-        k += 1;
     }
     place
 }

@@ -9,7 +9,7 @@ use lib.Dec.{T, leb, leb→le}
 use Rattle.finite.specs.Lists.{from}
 use Rattle.finite.proofs.Tests.{T_and}
 use Rattle.buffers.specs.Put.{Put}
-use Rattle.buffers.proofs.Puts.{put_none, put_join}
+use Rattle.buffers.proofs.Puts.{put_length, put_none, put_join}
 use Rattle.counting.specs.Table.{Table, columns, table_of}
 use Rattle.pieces.proofs.Lists.{from_next, flat_map_append}
 use Rattle.given_sheet.specs.Given.{WellFormed, given_sheet}
@@ -68,3 +68,6 @@ module _ {N m : ℕ} {levels table : List ℕ} (sheet : WellFormed N m levels ta
   pub none_put : (n : ℕ) → (leb 1 n && leb n (page_count N m)) ≡ false → {a b : List ℕ} {i j : ℕ} → Put a i no_such_page b j → Put a i (sheet_pages (One n) sheet_given) b j
   unfolding sheet_pages
   none_put n none p = rw (as_many, none) p
+
+-- How many pages there are, where each ends, and that the buffer keeps its length.
+pub ruleset pages_put = (few_pages, page_end, put_length)

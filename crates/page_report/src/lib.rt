@@ -32,6 +32,7 @@ pub fn put_asked(
 }
 
 // All pages of a sheet, one after the other.
+#[tactic(auto, using(crate::proofs::Pages::pages_put))]
 fn put_all_pages(table: &[u8], levels: &[u8], runs: usize, columns: usize, buf: &mut [u8]) -> usize
     requires well_formed { WellFormed runs columns levels.now table.now }
     requires page_room_in_bounds { page_room ≤ length buf.old }
@@ -39,10 +40,8 @@ fn put_all_pages(table: &[u8], levels: &[u8], runs: usize, columns: usize, buf: 
 {
     let count = page_count(runs, columns);
     let mut place = 0;
-    let mut before = 0;
-    while before < count {
+    for before in 0..count {
         place = put_page(table, levels, runs, columns, before + 1, buf, place);
-        before += 1;
     }
     place
 }

@@ -19,7 +19,7 @@ use sheets::answer::Refusal;
 use std::env::{Env, FillError};
 use std::io;
 use std::io::Read;
-use words::Scanned;
+use words::BadWord;
 
 fn main(rt: HostRuntime) -> io::Result<()> {
     let asked = page_asked(&rt);
@@ -66,14 +66,14 @@ fn answer_input<R: Read>(reader: &mut R, asked: Asked, out: &mut [u8]) -> usize
 }
 
 // Puts what is printed for a text that comes to this: the pages of its numbers, or the refusal of a word.
-fn put_scanned(scanned: Scanned, list: &[u16], asked: Asked, out: &mut [u8]) -> usize
+fn put_scanned(scanned: Result<usize, BadWord>, list: &[u16], asked: Asked, out: &mut [u8]) -> usize
     requires ended { Ended 32768 scanned list.now }
     requires page_room_in_bounds { page_room ≤ length out.old }
     ensures { Put out.old 0 (reading_pages asked (scanned_reading (scanned, list.now))) out.new result }
 {
     match scanned {
-        Scanned::Numbers { count } => put_pages(&list[..count], asked, out),
-        Scanned::Refused { place } => put_refused(out, Refusal::Unreadable { place }),
+        Ok(count) => put_pages(&list[..count], asked, out),
+        Err(BadWord { place }) => put_refused(out, Refusal::Unreadable { place }),
     }
 }
 

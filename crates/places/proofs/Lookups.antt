@@ -1,5 +1,5 @@
 -- Look-ups: the value that stands after k others in a list that reads is value k of the order.
-use mathlib.Core.Path.{◌≡◌, refl, sym, ◌∙◌}
+use mathlib.Core.Path.{◌≡◌, refl, sym, ap, ◌∙◌}
 use mathlib.Core.List.{List, [], ◌∷◌}
 use Prim.Native.Nat.{ℕ, zero, suc, ◌+◌, ◌-◌, ◌≤◌, ◌<◌}
 use native.Mathlib.Omega.{arith}
@@ -9,11 +9,10 @@ use Rattle.order.specs.Reader.{Parsed, value, refused, Reader, continue, allowed
 use Rattle.order.specs.Grammar.{between, counted, read_ingredient, read_order}
 use Rattle.order.specs.Answers.{number_of, walk_of, reading_of}
 use Rattle.order.specs.declared.Cursor.{Cursor}
-use Rattle.order.specs.declared.Number.TheVariants.{Is, Refused}
-use Rattle.order.specs.declared.Walk.TheVariants.{On, Refused as Refused_walk}
-use Rattle.order.specs.declared.Reading.TheVariants.{Reads, Refused as Refused_reading}
+use Rattle.std.specs.Prelude.{Ok, Err}
+use Rattle.order.specs.declared.Refused.{Refused}
 use Rattle.order.proofs.Law.{Law, same_value, refused_no_value}
-use Rattle.order.proofs.Answers.{walk_value, walk_refused}
+use Rattle.order.proofs.Answers.{value_same, refusal_same, apart, walk_value, walk_refused}
 use Rattle.places.specs.Places.{or_none, from_one, nth_in, nth_read, start_of, count_of, item_at, ingredients_start, steps_start}
 use Rattle.places.proofs.Parts.{continued, reading_order, reading_refused, ingredients_parts, steps_parts}
 
@@ -51,21 +50,20 @@ from_one_lem none f (suc k) h = let less : suc k - 1 ≡ k = omega arith in rw l
 -- Items of one sort of an order.
 module _ {A : Type 0} (items : Order → List A) (place : Order → ℕ) where
   -- Where they start, the list is that of an order.
-  pub start_order : {C : Type 0} (p : Parsed Order) {q : ℕ} {next : Cursor} → start_of items place p ≡ Is q next → ((o : Order) (last : ℕ) → p ≡ value o last → q ≡ length (items o) → next.at ≡ place o → C) → C
+  pub start_order : {C : Type 0} (p : Parsed Order) {q : ℕ} {next : Cursor} → start_of items place p ≡ Ok (q, next) → ((o : Order) (last : ℕ) → p ≡ value o last → q ≡ length (items o) → next.at ≡ place o → C) → C
   start_order (value o last) {q} {next} e found =
-      let many : q ≡ length (items o) = cc in
-      let cursor : ◌≡◌ {A = Cursor} (record { at = place o }) next = cc in
-      found o last refl many (rw (← cursor))
-  start_order (refused there) e found = absurd (let z : ◌≡◌ {A = ℕ} 0 1 = cc in omega arith)
+      let same = value_same {b = (q, next)} e in
+      found o last refl (sym (ap (λ r. r.0) same)) (sym (ap (λ r. r.1.at) same))
+  start_order (refused there) e found = apart (sym e)
 
-  pub start_refused : (p : Parsed Order) {there : ℕ} → start_of items place p ≡ Refused there → p ≡ refused there
-  start_refused (value o last) e = absurd (let z : ◌≡◌ {A = ℕ} 0 1 = cc in omega arith)
-  start_refused (refused here) {there} e = let same : here ≡ there = cc in rw same
+  pub start_refused : (p : Parsed Order) {refusal : Refused} → start_of items place p ≡ Err refusal → p ≡ refused refusal.place
+  start_refused (value o last) e = apart e
+  start_refused (refused here) e = ap (λ r. refused r.place) (refusal_same e)
 
-  pub count_is : (p : Parsed Order) {q : ℕ} {next : Cursor} → start_of items place p ≡ Is q next → q ≡ count_of items p
+  pub count_is : (p : Parsed Order) {q : ℕ} {next : Cursor} → start_of items place p ≡ Ok (q, next) → q ≡ count_of items p
   count_is p e = start_order p e λ o last v many there. many ∙ rw v
 
-  pub count_none : (p : Parsed Order) {there : ℕ} → start_of items place p ≡ Refused there → 0 ≡ count_of items p
+  pub count_none : (p : Parsed Order) {refusal : Refused} → start_of items place p ≡ Err refusal → 0 ≡ count_of items p
   count_none p e = rw (start_refused p e)
 
   module _ {R : Type 0} (none : R) (f : ℕ → A → R) (w : A → List ℕ) where
@@ -73,16 +71,16 @@ module _ {A : Type 0} (items : Order → List A) (place : Order → ℕ) where
     item_zero (value o last) = refl
     item_zero (refused there) = refl
 
-    pub item_refused : (p : Parsed Order) (i : ℕ) {there : ℕ} → start_of items place p ≡ Refused there → none ≡ item_at none f w items place p i
+    pub item_refused : (p : Parsed Order) (i : ℕ) {refusal : Refused} → start_of items place p ≡ Err refusal → none ≡ item_at none f w items place p i
     item_refused p i e = rw (start_refused p e)
 
-    pub item_past : (p : Parsed Order) (i : ℕ) {q : ℕ} {next : Cursor} → start_of items place p ≡ Is q next → q < i → none ≡ item_at none f w items place p i
+    pub item_past : (p : Parsed Order) (i : ℕ) {q : ℕ} {next : Cursor} → start_of items place p ≡ Ok (q, next) → q < i → none ≡ item_at none f w items place p i
     item_past p i e h =
         start_order p e λ o last v many there.
         rw v (sym (from_one_lem none (nth_in none f w (place o) (items o)) i (omega arith) ∙ nth_none none f w (place o) (items o) (i - 1) (omega arith)))
 
     -- An item is found after those before it, if all of them read.
-    pub item_found : {r : Reader A} {P : A → Type 0} (law : Law r P w) (list : List ℕ) (p : Parsed Order) (i : ℕ) {q : ℕ} {next : Cursor} → start_of items place p ≡ Is q next → ((o : Order) (last : ℕ) → p ≡ value o last → (end : ℕ) × (repeated (length (items o)) r list (place o) ≡ value (items o) end)) → 0 < i → i ≤ q → nth_read none f r (i - 1) list next.at ≡ item_at none f w items place p i
+    pub item_found : {r : Reader A} {P : A → Type 0} (law : Law r P w) (list : List ℕ) (p : Parsed Order) (i : ℕ) {q : ℕ} {next : Cursor} → start_of items place p ≡ Ok (q, next) → ((o : Order) (last : ℕ) → p ≡ value o last → (end : ℕ) × (repeated (length (items o)) r list (place o) ≡ value (items o) end)) → 0 < i → i ≤ q → nth_read none f r (i - 1) list next.at ≡ item_at none f w items place p i
     item_found {r} law list p i e reads low high =
         start_order p e λ o last v many there.
         let read = reads o last v in
@@ -92,29 +90,29 @@ module _ {A : Type 0} (items : Order → List A) (place : Order → ℕ) where
 
 -- What stands after k values that read.
 module _ {A R : Type 0} (none : R) (f : ℕ → A → R) (r : Reader A) (k : ℕ) (list : List ℕ) (at : ℕ) where
-  pub nth_found : {next : Cursor} {x : A} {last : ℕ} → walk_of (repeated k r list at) ≡ On next → r list next.at ≡ value x last → f next.at x ≡ nth_read none f r k list at
+  pub nth_found : {next : Cursor} {x : A} {last : ℕ} → walk_of (repeated k r list at) ≡ Ok next → r list next.at ≡ value x last → f next.at x ≡ nth_read none f r k list at
   nth_found e v = walk_value (repeated k r list at) e λ xs v₁. rw (v₁, v)
 
-  pub nth_refused : {next : Cursor} {place : ℕ} → walk_of (repeated k r list at) ≡ On next → r list next.at ≡ refused place → none ≡ nth_read none f r k list at
+  pub nth_refused : {next : Cursor} {place : ℕ} → walk_of (repeated k r list at) ≡ Ok next → r list next.at ≡ refused place → none ≡ nth_read none f r k list at
   nth_refused e v = walk_value (repeated k r list at) e λ xs v₁. rw (v₁, v)
 
-  pub nth_stopped : {place : ℕ} → walk_of (repeated k r list at) ≡ Refused_walk place → none ≡ nth_read none f r k list at
+  pub nth_stopped : {refusal : Refused} → walk_of (repeated k r list at) ≡ Err refusal → none ≡ nth_read none f r k list at
   nth_stopped e = rw (walk_refused (repeated k r list at) e)
 
 -- Of a list that reads: the numbers of ingredients and of steps, and the places of the first.
 module _ (list : List ℕ) where
-  pub ingredients_start_lem : reading_of (read_order list) ≡ Reads → number_of (allowed (between 0 32) list 0) ≡ ingredients_start (read_order list)
+  pub ingredients_start_lem : reading_of (read_order list) ≡ Ok tt → number_of (allowed (between 0 32) list 0) ≡ ingredients_start (read_order list)
   unfolding number_of ingredients_start
   ingredients_start_lem e =
       reading_order (read_order list) e λ o next v.
       ingredients_parts list o next v λ mid count read.
       rw (v, count)
 
-  pub ingredients_refused : {place : ℕ} → reading_of (read_order list) ≡ Refused_reading place → Refused place ≡ ingredients_start (read_order list)
+  pub ingredients_refused : {refusal : Refused} → reading_of (read_order list) ≡ Err refusal → Err refusal ≡ ingredients_start (read_order list)
   unfolding ingredients_start
   ingredients_refused e = rw (reading_refused (read_order list) e)
 
-  pub steps_start_lem : {next : Cursor} → reading_of (read_order list) ≡ Reads → walk_of (counted 0 32 read_ingredient list 0) ≡ On next → number_of (allowed (between 1 16) list next.at) ≡ steps_start (read_order list)
+  pub steps_start_lem : {next : Cursor} → reading_of (read_order list) ≡ Ok tt → walk_of (counted 0 32 read_ingredient list 0) ≡ Ok next → number_of (allowed (between 1 16) list next.at) ≡ steps_start (read_order list)
   unfolding number_of steps_start
   steps_start_lem {next} e first =
       reading_order (read_order list) e λ o last v.
@@ -123,11 +121,11 @@ module _ (list : List ℕ) where
       let there : mid ≡ next.at = cc in
       rw (v, ← there, count)
 
-  pub steps_refused : {place : ℕ} → reading_of (read_order list) ≡ Refused_reading place → Refused place ≡ steps_start (read_order list)
+  pub steps_refused : {refusal : Refused} → reading_of (read_order list) ≡ Err refusal → Err refusal ≡ steps_start (read_order list)
   unfolding steps_start
   steps_refused e = rw (reading_refused (read_order list) e)
 
-  pub ingredients_read : {C : Type 0} {place : ℕ} → reading_of (read_order list) ≡ Reads → walk_of (counted 0 32 read_ingredient list 0) ≡ Refused_walk place → C
+  pub ingredients_read : {C : Type 0} {refusal : Refused} → reading_of (read_order list) ≡ Ok tt → walk_of (counted 0 32 read_ingredient list 0) ≡ Err refusal → C
   ingredients_read e none =
       reading_order (read_order list) e λ o last v.
       steps_parts list o last v λ mid end ingredients count read.

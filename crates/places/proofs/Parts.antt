@@ -1,5 +1,5 @@
 -- The parts of an order that was read: what each reader gave on the way.
-use mathlib.Core.Path.{◌≡◌, refl, sym, ◌∙◌}
+use mathlib.Core.Path.{◌≡◌, refl, sym, ap, ◌∙◌}
 use mathlib.Core.List.{List}
 use Prim.Native.Nat.{ℕ}
 use native.Mathlib.Omega.{arith}
@@ -10,7 +10,9 @@ use Rattle.order.specs.Reader.{Parsed, value, refused, Reader, continue, allowed
 use Rattle.order.specs.Grammar.{between, counted, read_ingredient, read_step, read_parts, read_order}
 use Rattle.order.specs.Grammar
 use Rattle.order.specs.Answers.{reading_of}
-use Rattle.order.specs.declared.Reading.TheVariants.{Reads, Refused}
+use Rattle.std.specs.Prelude.{Ok, Err}
+use Rattle.order.specs.declared.Refused.{Refused}
+use Rattle.order.proofs.Answers.{refusal_same, apart}
 use Rattle.order.proofs.Law.{times_law, refused_no_value}
 use Rattle.order.proofs.ByKind.{between_law}
 use Rattle.order.proofs.IngredientLaw.{ingredient_law}
@@ -47,18 +49,18 @@ order_parts {C} list o next e found =
     ap_steps {o₁} {o₂} {o₃} e f = let p : o₁ ≡ o₂ = cc in let q : o₂ ≡ o₃ = cc in rw (p, q)
 
 -- A list that reads is the writing of an order.
-pub reading_order : {C : Type 0} (p : Parsed Order) → reading_of p ≡ Reads → ((o : Order) (next : ℕ) → p ≡ value o next → C) → C
+pub reading_order : {C : Type 0} (p : Parsed Order) → reading_of p ≡ Ok tt → ((o : Order) (next : ℕ) → p ≡ value o next → C) → C
 unfolding reading_of
 reading_order (value o next) e found = found o next refl
 reading_order (refused place) e found = absurd (let z : ◌≡◌ {A = ℕ} 0 1 = cc in omega arith)
 
-pub reading_reads : {C : Type 0} (list : List ℕ) → reading_of (read_order list) ≡ Reads → ((o : Order) → Grammar.Reads list o → C) → C
+pub reading_reads : {C : Type 0} (list : List ℕ) → reading_of (read_order list) ≡ Ok tt → ((o : Order) → Grammar.Reads list o → C) → C
 reading_reads list e found = reading_order (read_order list) e λ o next v. found o (read_to_end list o next v)
 
-pub reading_refused : (p : Parsed Order) {place : ℕ} → reading_of p ≡ Refused place → p ≡ refused place
+pub reading_refused : (p : Parsed Order) {refusal : Refused} → reading_of p ≡ Err refusal → p ≡ refused refusal.place
 unfolding reading_of
-reading_refused (value o next) e = absurd (let z : ◌≡◌ {A = ℕ} 0 1 = cc in omega arith)
-reading_refused (refused there) {place} e = let same : there ≡ place = cc in rw same
+reading_refused (value o next) e = apart e
+reading_refused (refused here) e = ap (λ r. refused r.place) (refusal_same e)
 
 -- How many ingredients there are, and that they read from place 1 on.
 pub ingredients_parts : {C : Type 0} (list : List ℕ) (o : Order) (next : ℕ) → read_order list ≡ value o next → ((mid : ℕ) → allowed (between 0 32) list 0 ≡ value (length o.ingredients) 1 → repeated (length o.ingredients) read_ingredient list 1 ≡ value o.ingredients mid → C) → C

@@ -1,6 +1,7 @@
 -- Where the ingredients and steps of an order stand in its list: what a look-up gives, and the numbers that the list has there.
 use mathlib.Core.Path.{◌≡◌, refl}
 use mathlib.Core.List.{List, [], ◌∷◌, ◌++◌}
+use Rattle.std.specs.Prelude.{Some, None}
 use mathlib.Core.Option.{Option, none, some}
 use Prim.Native.Nat.{ℕ, zero, suc, ◌+◌, ◌≤◌}
 use native.Mathlib.Omega.{arith}
@@ -8,11 +9,9 @@ use lib.ListN.{length, get_or, take, drop, get_elem?}
 use Rattle.order.specs.Order.{Ingredient, table, matrix, generator, Step, TAKE, FIELD, SUM, MERGE, SPLIT, CROSS, Order, All, IngredientLimits, StepLimits, written_ingredient, written_step, written_all, written, entries_of}
 use Rattle.order.specs.Grammar.{read_order, Reads}
 use Rattle.order.specs.Answers.{entries_from, located, kind_of}
-use Rattle.order.specs.declared.Located.TheVariants.{Missing}
 use Rattle.order.proofs.Segment.{Segment, segment_whole, part_left, part_right, segment_numbers, number_is}
 use Rattle.order.proofs.OrderLaw.{reads_iff}
 use Rattle.places.specs.Places.{nth_in, first_step_place, ingredient_from, step_from, ingredient_at, step_at, ingredient_in, matrices_from, adjoined_from, crossed_from, step_in}
-use Rattle.places.specs.declared.Placed.TheVariants.{Step as Step_at, Missing as Missing_step}
 use Rattle.places.proofs.Lookups.{nth_none}
 
 -- Value k of those that are written one after the other from place at on.
@@ -26,18 +25,18 @@ module _ {A R C : Type 0} (other : R) (f : ℕ → A → R) (P : A → Type 0) (
       value_stands (at + length (w y)) ys k h.1 (part_right (w y) (written_all w ys) s) e found
 
 -- Ingredient k, from 0, of a list that reads: what the look-up of its number k + 1 gives, its limits, and where its numbers stand.
-pub ingredient_stands : {C : Type 0} (list : List ℕ) (o : Order) → Reads list o → (k : ℕ) (g : Ingredient) → get_elem? o.ingredients k ≡ some g → ((place after : ℕ) → ingredient_at (read_order list) (suc k) ≡ located (place + 3) g → IngredientLimits g → Segment list place (written_ingredient g) after → C) → C
+pub ingredient_stands : {C : Type 0} (list : List ℕ) (o : Order) → Reads list o → (k : ℕ) (g : Ingredient) → get_elem? o.ingredients k ≡ some g → ((place after : ℕ) → ingredient_at (read_order list) (suc k) ≡ Some (located (place + 3) g) → IngredientLimits g → Segment list place (written_ingredient g) after → C) → C
 unfolding written ingredient_at
 ingredient_stands list o e k g here found =
     let reads = (reads_iff list o).0 e in
     let whole : Segment list 0 (written o) (length list) = rw reads.2 (segment_whole list) in
     let all = written_all written_ingredient o.ingredients in
     let first = part_left (length o.ingredients ∷ all) (length o.steps ∷ written_all written_step o.steps) whole in
-    value_stands Missing ingredient_from IngredientLimits written_ingredient 1 o.ingredients k reads.1.each_ingredient
+    value_stands None ingredient_from IngredientLimits written_ingredient 1 o.ingredients k reads.1.each_ingredient
     (part_right (length o.ingredients ∷ []) all first) here λ place after same limits s.
     found place after (rw e same) limits s
 
-pub step_stands : {C : Type 0} (list : List ℕ) (o : Order) → Reads list o → (k : ℕ) (s : Step) → get_elem? o.steps k ≡ some s → ((place after : ℕ) → step_at (read_order list) (suc k) ≡ Step_at (kind_of s) (place + 1) → StepLimits s → Segment list place (written_step s) after → C) → C
+pub step_stands : {C : Type 0} (list : List ℕ) (o : Order) → Reads list o → (k : ℕ) (s : Step) → get_elem? o.steps k ≡ some s → ((place after : ℕ) → step_at (read_order list) (suc k) ≡ Some (record { kind = kind_of s; operands_at = place + 1 }) → StepLimits s → Segment list place (written_step s) after → C) → C
 unfolding written step_at
 step_stands list o e k s here found =
     let reads = (reads_iff list o).0 e in
@@ -46,7 +45,7 @@ step_stands list o e k s here found =
     let all = written_all written_step o.steps in
     let there : 0 + length before + 1 ≡ first_step_place o = omega arith in
     let steps : Segment list (first_step_place o) all (length list) = rw there at (part_right (length o.steps ∷ []) all (part_right before (length o.steps ∷ all) whole)) in
-    value_stands Missing_step step_from StepLimits written_step (first_step_place o) o.steps k reads.1.each_step steps here λ place after same limits t.
+    value_stands None step_from StepLimits written_step (first_step_place o) o.steps k reads.1.each_step steps here λ place after same limits t.
     found place after (rw e same) limits t
 
 module _ {list : List ℕ} {place after : ℕ} where
@@ -89,7 +88,7 @@ crossed_stands ds k h s =
     rw (count_stands ds k (h ∷ []) s) (number_is (part_right (k ∷ []) (h ∷ []) (after_matrices ds k (h ∷ []) s)))
 
 -- The ingredient that a look-up describes is that of the order, and none is described past the last.
-described : {list : List ℕ} {place after : ℕ} (g : Ingredient) → IngredientLimits g → Segment list place (written_ingredient g) after → ingredient_in list (located (place + 3) g) ≡ some g
+described : {list : List ℕ} {place after : ℕ} (g : Ingredient) → IngredientLimits g → Segment list place (written_ingredient g) after → ingredient_in list (Some (located (place + 3) g)) ≡ some g
 described (table rows levels entries) h s = rw (levels_stand rows levels entries s, ← h.3, entries_stand (table rows levels entries) s)
 described (matrix rows columns p entries) h s = rw (← h.3, entries_stand (matrix rows columns p entries) s)
 described (generator t s widths entries) h seg =
@@ -105,13 +104,13 @@ unfolding ingredient_at
 ingredient_described list o e k = go (get_elem? o.ingredients k) refl
   where
     go : (found : Option Ingredient) → get_elem? o.ingredients k ≡ found → ingredient_in list (ingredient_at (read_order list) (suc k)) ≡ get_elem? o.ingredients k
-    go none here = rw (e, nth_none Missing ingredient_from written_ingredient 1 o.ingredients k (past o.ingredients k here), here)
+    go none here = rw (e, nth_none None ingredient_from written_ingredient 1 o.ingredients k (past o.ingredients k here), here)
     go (some g) here =
         ingredient_stands list o e k g here λ place after same limits s.
         rw (same, here) (described g limits s)
 
 -- The same of a step: its operands are the numbers after its kind.
-step_described_at : {list : List ℕ} {place after : ℕ} (s : Step) → StepLimits s → Segment list place (written_step s) after → step_in list (Step_at (kind_of s) (place + 1)) ≡ some s
+step_described_at : {list : List ℕ} {place after : ℕ} (s : Step) → StepLimits s → Segment list place (written_step s) after → step_in list (Some (record { kind = kind_of s; operands_at = place + 1 })) ≡ some s
 step_described_at (TAKE i) h t = rw (number_is (part_right (1 ∷ []) (i ∷ []) t))
 step_described_at (FIELD i) h t = rw (number_is (part_right (2 ∷ []) (i ∷ []) t))
 step_described_at (SUM ds k) h t =
@@ -132,7 +131,7 @@ unfolding step_at
 step_described list o e k = go (get_elem? o.steps k) refl
   where
     go : (found : Option Step) → get_elem? o.steps k ≡ found → step_in list (step_at (read_order list) (suc k)) ≡ get_elem? o.steps k
-    go none here = rw (e, nth_none Missing_step step_from written_step (first_step_place o) o.steps k (past o.steps k here), here)
+    go none here = rw (e, nth_none None step_from written_step (first_step_place o) o.steps k (past o.steps k here), here)
     go (some s) here =
         step_stands list o e k s here λ place after same limits t.
         rw (same, here) (step_described_at s limits t)

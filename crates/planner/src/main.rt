@@ -15,7 +15,7 @@ use report::put_refused;
 use sheets::answer::Refusal;
 use std::io;
 use std::io::Read;
-use words::Scanned;
+use words::BadWord;
 
 fn main(rt: HostRuntime) -> io::Result<()> {
     let mut out = answer_room();
@@ -48,14 +48,14 @@ fn answer_input<R: Read>(reader: &mut R, out: &mut [u8]) -> usize
 }
 
 // Puts what is printed for a text that comes to this: the answer to its numbers, or the refusal of a word.
-fn put_scanned(scanned: Scanned, list: &[u16], out: &mut [u8]) -> usize
+fn put_scanned(scanned: Result<usize, BadWord>, list: &[u16], out: &mut [u8]) -> usize
     requires ended { Ended 32768 scanned list.now }
     requires answer_room_in_bounds { answer_room ≤ length out.old }
     ensures { Put out.old 0 (reading_printed (scanned_reading (scanned, list.now))) out.new result }
 {
     match scanned {
-        Scanned::Numbers { count } => put_plan(&list[..count], out),
-        Scanned::Refused { place } => put_refused(out, Refusal::Unreadable { place }),
+        Ok(count) => put_plan(&list[..count], out),
+        Err(BadWord { place }) => put_refused(out, Refusal::Unreadable { place }),
     }
 }
 

@@ -10,10 +10,10 @@ use native.Mathlib.Omega.{arith}
 use borrow.Author.Tests.{lt-ltb, le-leb, lt-leb}
 use lib.ListN.{length, get_or, take, drop, set, replicate, length-append, length-replicate, take-append-drop}
 use lib.Seq.{take_all, take-suc, take-suc-set}
+use Rattle.std.specs.Prelude.{Some, None}
 use Rattle.words.specs.Words.{is_digit, all_digits, decimal}
 use Rattle.words.proofs.Cuts.{decimal_snoc, digits_snoc}
 use Rattle.price_arguments.specs.PriceArguments.{is_price, price_in, all_prices, price_list}
-use Rattle.price_arguments.specs.declared.Price.TheVariants.{Pence, NoNumber}
 
 -- One byte that is no digit spoils the whole.
 no_digit : (word : List ℕ) (i : ℕ) → i < length word → is_digit (get_or word i 0) ≡ false → all_digits word ≡ false
@@ -46,26 +46,26 @@ read_none argument = record { digits = refl; is = refl; small = zero-le }
 
 module _ (argument : List ℕ) where
   -- An argument without a byte writes no price.
-  pub price_empty : length argument ≡ 0 → NoNumber ≡ price_in argument
+  pub price_empty : length argument ≡ 0 → None ≡ price_in argument
   unfolding price_in is_price
   price_empty e = rw e
 
   -- Nor does one that is not all digits, or that writes too much.
-  not_digits : all_digits argument ≡ false → NoNumber ≡ price_in argument
+  not_digits : all_digits argument ≡ false → None ≡ price_in argument
   unfolding price_in is_price
   not_digits e = rw (e, and-false)
 
-  not_small : 4294967295 < decimal argument → NoNumber ≡ price_in argument
+  not_small : 4294967295 < decimal argument → None ≡ price_in argument
   unfolding price_in is_price
   not_small h = rw (lt-leb _ _ h, and-false)
 
   module _ (i : ℕ) (h : i < length argument) where
     -- A byte below "0" or above "9" is no digit, so the argument writes none.
-    pub price_low : get_or argument i 0 < 48 → NoNumber ≡ price_in argument
+    pub price_low : get_or argument i 0 < 48 → None ≡ price_in argument
     unfolding is_digit
     price_low low = not_digits (no_digit argument i h (rw (lt-leb 48 _ low)))
 
-    pub price_high : 57 < get_or argument i 0 → NoNumber ≡ price_in argument
+    pub price_high : 57 < get_or argument i 0 → None ≡ price_in argument
     unfolding is_digit
     price_high high = not_digits (no_digit argument i h (rw (lt-leb _ 57 high, and-false)))
 
@@ -75,7 +75,7 @@ module _ (argument : List ℕ) where
 
     -- One digit more makes the value too large, or is read too.
     module _ {value : ℕ} (read : ReadTo argument i value) where
-      pub price_large : 4294967295 < value * 10 + (get_or argument i 0 - 48) → NoNumber ≡ price_in argument
+      pub price_large : 4294967295 < value * 10 + (get_or argument i 0 - 48) → None ≡ price_in argument
       price_large large = not_small (omega (arith, decimal_take argument (i + 1), next, read.is))
 
       pub read_more : 48 ≤ get_or argument i 0 → get_or argument i 0 ≤ 57 → value * 10 + (get_or argument i 0 - 48) ≤ 4294967295 → ReadTo argument (i + 1) (value * 10 + (get_or argument i 0 - 48))
@@ -87,7 +87,7 @@ module _ (argument : List ℕ) where
       }
 
   -- What was read to the end of an argument that has a byte is its price.
-  pub price_whole : {i value : ℕ} → (length argument ≡ 0 → ⊥) → length argument ≤ i → ReadTo argument i value → Pence value ≡ price_in argument
+  pub price_whole : {i value : ℕ} → (length argument ≡ 0 → ⊥) → length argument ≤ i → ReadTo argument i value → Some value ≡ price_in argument
   unfolding price_in is_price
   price_whole {i} {value} some end read =
       let whole = take_all i argument end in
@@ -95,21 +95,24 @@ module _ (argument : List ℕ) where
       let is = rw whole at read.is in
       rw (lt-ltb 0 (length argument) (omega arith), digits, is, le-leb value 4294967295 read.small)
 
+-- What `price_in` returns, at each of its returns.
+pub ruleset returned = (price_empty, price_low, price_high, price_large, price_whole)
+
 -- What an answer says of the argument.
-is_price_lem : (word : List ℕ) {p : ℕ} → price_in word ≡ Pence p → (is_price word ≡ true) × (decimal word ≡ p)
+is_price_lem : (word : List ℕ) {p : ℕ} → price_in word ≡ Some p → (is_price word ≡ true) × (decimal word ≡ p)
 unfolding price_in
 is_price_lem word {p} = go (is_price word) refl
   where
-    go : (b : Bool) → is_price word ≡ b → cond b (Pence (decimal word)) NoNumber ≡ Pence p → (is_price word ≡ true) × (decimal word ≡ p)
+    go : (b : Bool) → is_price word ≡ b → cond b (Some (decimal word)) None ≡ Some p → (is_price word ≡ true) × (decimal word ≡ p)
     go true is e = (is, cc)
-    go false is e = let z : ◌≡◌ {A = ℕ} 0 1 = cc in absurd (omega arith)
+    go false is e = cc
 
-no_price : (word : List ℕ) → price_in word ≡ NoNumber → is_price word ≡ false
+no_price : (word : List ℕ) → price_in word ≡ None → is_price word ≡ false
 unfolding price_in
 no_price word = go (is_price word) refl
   where
-    go : (b : Bool) → is_price word ≡ b → cond b (Pence (decimal word)) NoNumber ≡ NoNumber → is_price word ≡ false
-    go true is e = let z : ◌≡◌ {A = ℕ} 0 1 = cc in absurd (omega arith)
+    go : (b : Bool) → is_price word ≡ b → cond b (Some (decimal word)) None ≡ None → is_price word ≡ false
+    go true is e = cc
     go false is e = is
 
 -- One argument more.
@@ -117,7 +120,7 @@ all_snoc : (words : List (List ℕ)) (word : List ℕ) → all_prices (words ++ 
 all_snoc [] word = and-true (is_price word)
 all_snoc (w ∷ ws) word = rw (all_snoc ws word) (sym (and_assoc (is_price w) (all_prices ws) (is_price word)))
 
-price_snoc : (words : List (List ℕ)) (word : List ℕ) {p : ℕ} → all_prices words ≡ true → price_in word ≡ Pence p → (all_prices (words ++ (word ∷ [])) ≡ true) × (map decimal (words ++ (word ∷ [])) ≡ map decimal words ++ (p ∷ []))
+price_snoc : (words : List (List ℕ)) (word : List ℕ) {p : ℕ} → all_prices words ≡ true → price_in word ≡ Some p → (all_prices (words ++ (word ∷ [])) ≡ true) × (map decimal (words ++ (word ∷ [])) ≡ map decimal words ++ (p ∷ []))
 price_snoc words word all e =
     let price = is_price_lem word e in
     (rw (all_snoc, all) price.0, rw (map-append, price.1))
@@ -128,7 +131,7 @@ unfolding price_list
 price_list_lem words all few = rw (le-leb _ 130 few, all)
 
 -- One argument that writes none, or more than 130 arguments, leave no numbers.
-bad_list : (words : List (List ℕ)) (word : List ℕ) → price_in word ≡ NoNumber → price_list (words ++ (word ∷ [])) ≡ []
+bad_list : (words : List (List ℕ)) (word : List ℕ) → price_in word ≡ None → price_list (words ++ (word ∷ [])) ≡ []
 unfolding price_list
 bad_list words word none = rw (all_snoc, no_price word none, and-false (all_prices words), and-false)
 
@@ -147,7 +150,7 @@ pub record Listed (numbers : List ℕ) (i : ℕ) : Type 0 where
 pub listed_start : (numbers : List ℕ) → Listed numbers 0
 listed_start numbers = record { words = []; many = refl; all = refl; kept = refl }
 
-pub listed_more : {numbers : List ℕ} {i p : ℕ} (word : List ℕ) → Listed numbers i → i < length numbers → price_in word ≡ Pence p → Listed (set numbers i p) (i + 1)
+pub listed_more : {numbers : List ℕ} {i p : ℕ} (word : List ℕ) → Listed numbers i → i < length numbers → price_in word ≡ Some p → Listed (set numbers i p) (i + 1)
 listed_more {numbers} {i} {p} word so_far h e =
     let next = price_snoc so_far.words word so_far.all e in
     record {
@@ -162,7 +165,7 @@ pub listed_list : {numbers : List ℕ} {i : ℕ} → Listed numbers i → i ≤ 
 listed_list so_far few =
     (so_far.words, so_far.kept ∙ sym (price_list_lem so_far.words so_far.all (omega (arith, so_far.many))))
 
-pub none_listed : (word : List ℕ) → price_in word ≡ NoNumber → (arguments : List (List ℕ)) × ([] ≡ price_list arguments)
+pub none_listed : (word : List ℕ) → price_in word ≡ None → (arguments : List (List ℕ)) × ([] ≡ price_list arguments)
 none_listed word none = (word ∷ [], sym (bad_list [] word none))
 
 pub many_listed : (arguments : List (List ℕ)) × ([] ≡ price_list arguments)

@@ -4,35 +4,27 @@
 ghost use Rattle.std.specs.Prelude.{◌≡◌};
 ghost use Rattle.price_arguments.specs.PriceArguments.{price_in};
 
-// What an argument writes: a price, which is a number of 32 bits, or none.
-#[derive(Clone, Copy)]
-pub enum Price {
-    Pence(u32),
-    NoNumber,
-}
-
-// The price that an argument writes. It is read digit by digit up to the first byte that is none, or until it is too large.
-pub fn price_in(argument: &[u8]) -> Price
+// The price that an argument writes, a number of 32 bits, or none. It is read digit by digit up to the first byte that
+// is none, or until it is too large.
+#[tactic(auto, using(crate::proofs::Prices::returned))]
+pub fn price_in(argument: &[u8]) -> Option<u32>
     ensures { result ≡ price_in argument.now }
 {
     if argument.len() == 0 {
-        return Price::NoNumber;
+        return None;
     }
     let mut value = 0u64;
-    let mut i = 0;
-    while i < argument.len() {
-        let byte = argument[i];
+    for &byte in argument {
         if byte < 48 {
-            return Price::NoNumber;
+            return None;
         }
         if 57 < byte {
-            return Price::NoNumber;
+            return None;
         }
         value = value * 10 + (byte - 48) as u64;
         if 4294967295 < value {
-            return Price::NoNumber;
+            return None;
         }
-        i += 1;
     }
-    Price::Pence(value as u32)
+    Some(value as u32)
 }

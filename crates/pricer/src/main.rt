@@ -13,13 +13,13 @@ ghost use Rattle.charge_report.specs.ChargeReport.{outcome_charged, reading_char
 
 use charge_printing::plan_and_put_charge;
 use input::scan_input;
-use price_arguments::{Price, price_in};
+use price_arguments::price_in;
 use report::put_refused;
 use sheets::answer::Refusal;
 use std::env::{Env, FillError};
 use std::io;
 use std::io::Read;
-use words::Scanned;
+use words::BadWord;
 
 fn main(rt: HostRuntime) -> io::Result<()> {
     let mut numbers = [0u32; 130];
@@ -43,18 +43,16 @@ fn prices_given(rt: &impl Env, numbers: &mut [u32]) -> usize
     ensures { (result ≤ 130) × ((arguments : List (List ℕ)) × (take result numbers.new ≡ price_list arguments)) }
 {
     let mut room = argument_room();
-    let mut i = 0;
-    while i < 130 {
+    for i in 0..130 {
         match price_at(rt, i + 1, &mut room) {
-            Some(Price::Pence(pence)) => numbers[i] = pence,
-            Some(Price::NoNumber) => return 0,
+            Some(Some(pence)) => numbers[i] = pence,
+            Some(None) => return 0,
             None => return i,
         }
-        i += 1;
     }
     match price_at(rt, 131, &mut room) {
         Some(_) => 0,
-        None => i,
+        None => 130,
     }
 }
 
@@ -65,8 +63,8 @@ fn argument_room() -> [u8; 131072]
     [0; 131072]
 }
 
-// The price that an argument writes, or none where there is no such argument.
-fn price_at(rt: &impl Env, i: usize, room: &mut [u8]) -> Option<Price>
+// What an argument writes, a price or none, or `None` where there is no such argument.
+fn price_at(rt: &impl Env, i: usize, room: &mut [u8]) -> Option<Option<u32>>
     ensures { IfSome result (λ price. (argument : List ℕ) × (price ≡ price_in argument)) }
 {
     match rt.arg(i, room) {
@@ -87,14 +85,19 @@ fn answer_input<R: Read>(reader: &mut R, numbers: &[u32], out: &mut [u8]) -> usi
 }
 
 // Puts what is printed for a text that comes to this: the charge for its numbers, or the refusal of a word.
-fn put_scanned(scanned: Scanned, list: &[u16], numbers: &[u32], out: &mut [u8]) -> usize
+fn put_scanned(
+    scanned: Result<usize, BadWord>,
+    list: &[u16],
+    numbers: &[u32],
+    out: &mut [u8],
+) -> usize
     requires ended { Ended 32768 scanned list.now }
     requires charge_room_in_bounds { charge_room ≤ length out.old }
     ensures { Put out.old 0 (reading_charged numbers.now (scanned_reading (scanned, list.now))) out.new result }
 {
     match scanned {
-        Scanned::Numbers { count } => put_ordered(&list[..count], numbers, out),
-        Scanned::Refused { place } => put_refused(out, Refusal::Unreadable { place }),
+        Ok(count) => put_ordered(&list[..count], numbers, out),
+        Err(BadWord { place }) => put_refused(out, Refusal::Unreadable { place }),
     }
 }
 

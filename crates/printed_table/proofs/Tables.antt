@@ -1,9 +1,9 @@
 -- What is printed of a table, as the parts that are put one after the other, and the room that each of them finds.
 -- Assumes nothing.
-use mathlib.Core.Path.{◌≡◌, sym, ◌∙◌}
+use mathlib.Core.Path.{◌≡◌, ◌∙◌}
 use mathlib.Core.List.{List}
 use Prim.Native.Nat.{ℕ, ◌+◌, ◌*◌, ◌-◌, ◌≤◌, ◌<◌}
-use native.Mathlib.Nat.{le_antisymm, zero-mul, suc-mul, mul-le-mul, mul-le-mul_right}
+use native.Mathlib.Nat.{suc-mul, mul-le-mul, mul-le-mul_right}
 use native.Mathlib.Numerals.{add-one}
 use native.Mathlib.Omega.{arith}
 use lib.IntN.{ℤ}
@@ -12,7 +12,7 @@ use lib.Seq.{length-take-le}
 use mir.Syntax.{w64}
 use mir.Val.{SFits}
 use Rattle.buffers.specs.Put.{Put, Bytes}
-use Rattle.buffers.proofs.Puts.{put_none, put_join, put_length}
+use Rattle.buffers.proofs.Puts.{put_join, put_length}
 use Rattle.rows.specs.Rows.{line}
 use Rattle.lines.specs.Lines.{header, run_lines, printed}
 use Rattle.decimals.proofs.Decimals.{decimal_length}
@@ -20,45 +20,32 @@ use Rattle.decimals.proofs.Signed.{signed_word}
 use Rattle.lines.proofs.Runs.{runs_snoc, take_small, line_length, runs_length}
 use Rattle.printed_table.specs.Room.{answer_room, TableInBuffers}
 
--- The first n of some runs are put; the next starts at the place `start` among the cells.
-pub record RunsPut (columns : ℕ) (cells a : List ℕ) (at n : ℕ) (b : List ℕ) (end start : ℕ) : Type 0 where
+-- The first n of some runs are put.
+pub record RunsPut (columns : ℕ) (cells a : List ℕ) (at n : ℕ) (b : List ℕ) (end : ℕ) : Type 0 where
   pub put : Put a at (run_lines n columns cells) b end
-  pub starts : start ≡ n * columns
 
-pub runs_none : (columns : ℕ) (cells a : List ℕ) (at : ℕ) → at ≤ length a → RunsPut columns cells a at 0 a at 0
-runs_none columns cells a at h = record { put = put_none a at h; starts = sym (zero-mul columns) }
-
-module _ {columns : ℕ} {cells a : List ℕ} {at n : ℕ} {b : List ℕ} {end start : ℕ} (so_far : RunsPut columns cells a at n b end start) where
-  -- Where there is a run more: its cells are there, and so is room for its line.
+module _ {columns : ℕ} {cells a : List ℕ} {at n : ℕ} {b : List ℕ} {end : ℕ} (so_far : RunsPut columns cells a at n b end) where
+  -- Where there is a run more: there is room for its line.
   module _ {runs : ℕ} (more : n < runs) where
-    pub run_there : runs * columns ≤ length cells → start + columns ≤ length cells
-    run_there there = omega (arith, so_far.starts, suc-mul n columns, mul-le-mul_right columns more)
-
     pub run_room : Bytes cells → at + runs * (4 * columns + 1) ≤ length a
-        → end + 4 * length (take (start + columns - start) (drop start cells)) < length b
+        → end + 4 * length (take (n * columns + columns - n * columns) (drop (n * columns) cells)) < length b
     run_room small room =
         let wide = 4 * columns + 1 in
         omega (
           arith,
           so_far.put.ends,
           put_length so_far.put,
-          length-take (start + columns - start) (drop start cells),
+          length-take (n * columns + columns - n * columns) (drop (n * columns) cells),
           runs_length n columns cells small,
           suc-mul n wide,
           mul-le-mul_right wide more,
         )
 
-  pub runs_all : {runs : ℕ} → n ≤ runs → runs ≤ n → Put a at (run_lines runs columns cells) b end
-  runs_all most least = rw (le_antisymm most least) at so_far.put
-
-  pub run_next : {c : List ℕ} {end' : ℕ} → Put b end (line (take (start + columns - start) (drop start cells))) c end'
-      → RunsPut columns cells a at (n + 1) c end' (start + columns)
+  pub run_next : {c : List ℕ} {end' : ℕ} → Put b end (line (take (n * columns + columns - n * columns) (drop (n * columns) cells))) c end'
+      → RunsPut columns cells a at (n + 1) c end'
   run_next q =
-      let wide : start + columns - start ≡ columns = omega arith in
-      record {
-        put = rw (add-one, runs_snoc) (put_join so_far.put (rw (wide, so_far.starts) at q));
-        starts = rw add-one (omega (arith, so_far.starts, suc-mul n columns));
-      }
+      let wide : n * columns + columns - n * columns ≡ columns = omega arith in
+      record { put = rw (add-one, runs_snoc) (put_join so_far.put (rw wide at q)) }
 
 header_length : (m n : ℕ) (spare : ℤ) → m < 1000 → n < 1000 → SFits w64 spare → length (header m n spare) ≤ 29
 unfolding header

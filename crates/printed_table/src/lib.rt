@@ -16,13 +16,10 @@ fn put_runs(buf: &mut [u8], at: usize, runs: usize, columns: usize, cells: &[u8]
     ensures { Put buf.old at (run_lines runs columns cells.now) buf.new result }
 {
     let mut place = at;
-    let mut start = 0;
-    let mut i = 0;
-    while i < runs {
+    for i in 0..runs {
+        let start = i * columns;
         let end = start + columns;
         place = put_row(buf, place, &cells[start..end]);
-        start = end;
-        i += 1;
     }
     place
 }

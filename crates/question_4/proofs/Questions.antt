@@ -7,18 +7,18 @@ use Prim.Native.Nat.{ℕ, zero, suc, ◌+◌, ◌≤◌, ◌<◌}
 use native.Mathlib.Numerals.{add-one}
 use native.Mathlib.Omega.{arith}
 use lib.ListN.{length, drop, get_elem?, drop_of_length-le}
+use Rattle.std.specs.Prelude.{Result, Ok, Err, Some, None}
 use Rattle.finite.specs.First.{◌or_else◌}
 use Rattle.counting.specs.Verdict.{table_verdict, matrix_verdict}
 use Rattle.counting.specs.GeneratorVerdict.{generator_verdict}
 use Rattle.counting.specs.declared.verdict.TableVerdict.{TableVerdict}
-use Rattle.counting.specs.declared.verdict.MatrixFinding.{MatrixFinding}
-use Rattle.counting.specs.declared.verdict.GeneratorFinding.{GeneratorFinding}
+use Rattle.counting.specs.declared.verdict.DifferenceFault.{DifferenceFault}
+use Rattle.counting.specs.declared.verdict.DependenceFault.{DependenceFault}
 use Rattle.order.specs.Order.{Ingredient, Order}
 use Rattle.order.specs.Reader.{Parsed, value, refused as unread}
 use Rattle.order.specs.Grammar.{read_order, Reads}
-use Rattle.order.specs.declared.Located.TheVariants.{Table as TableAt, Matrix as MatrixAt, Generator as GeneratorAt, Missing as NothingAt}
+use Rattle.order.specs.declared.Located.TheVariants.{Table as TableAt, Matrix as MatrixAt, Generator as GeneratorAt}
 use Rattle.order.specs.Range.{EntriesInRange, range_of}
-use Rattle.order.specs.declared.Entries.TheVariants.{InRange}
 use Rattle.order.proofs.OrderLaw.{read_to_end}
 use Rattle.order.proofs.InRange.{range_iff}
 use Rattle.places.specs.Places.{ingredient_at, ingredient_count}
@@ -28,17 +28,15 @@ use Rattle.sheets.specs.declared.answer.Refusal.{Refusal}
 use Rattle.ingredients.specs.Named.{table_in, matrix_in, generator_in}
 use Rattle.question_4.specs.Passing.{passing_of, refusal_at, passing_in}
 use Rattle.ingredients.specs.declared.named.NamedTable.TheVariants.{Own}
-use Rattle.question_4.specs.declared.Passing.{Passing}
-use Rattle.question_4.specs.declared.Passing.TheVariants.{AllPass, Refused}
 
 -- ---- a list whose entries are in range reads as an order
 
-range_order : {C : Type 0} (p : Parsed Order) → range_of p ≡ InRange → ((o : Order) (next : ℕ) → p ≡ value o next → C) → C
+range_order : {C : Type 0} (p : Parsed Order) → range_of p ≡ Ok tt → ((o : Order) (next : ℕ) → p ≡ value o next → C) → C
 unfolding range_of
 range_order (value o next) e found = found o next refl
-range_order (unread place) e found = absurd (let z : ◌≡◌ {A = ℕ} 0 1 = cc in omega arith)
+range_order (unread place) e found = cc
 
-pub readable : {C : Type 0} (list : List ℕ) → range_of (read_order list) ≡ InRange → ((o : Order) → Reads list o → EntriesInRange o → C) → C
+pub readable : {C : Type 0} (list : List ℕ) → range_of (read_order list) ≡ Ok tt → ((o : Order) → Reads list o → EntriesInRange o → C) → C
 readable list e found =
     range_order (read_order list) e λ o next v.
     let reads = read_to_end list o next v in
@@ -47,20 +45,20 @@ readable list e found =
 -- ---- one ingredient, by what the look-up finds
 
 -- An answer that comes of a verdict, where the verdict is the one on the ingredient that the look-up finds.
-module _ (list : List ℕ) (i : ℕ) {r : Passing} where
-  pub table_answer : {rows columns levels_at entries_at : ℕ} {verdict : TableVerdict} → ingredient_at (read_order list) i ≡ TableAt rows columns levels_at entries_at → verdict ≡ table_verdict (table_in list (Own rows columns levels_at entries_at)) → r ≡ passing_of (table_refusal i verdict.finding) → r ≡ passing_of (refusal_at list i)
+module _ (list : List ℕ) (i : ℕ) {r : Result (Unit {0}) Refusal} where
+  pub table_answer : {rows columns levels_at entries_at : ℕ} {verdict : TableVerdict} → ingredient_at (read_order list) i ≡ Some (TableAt rows columns levels_at entries_at) → verdict ≡ table_verdict (table_in list (Own rows columns levels_at entries_at)) → r ≡ passing_of (table_refusal i verdict.finding) → r ≡ passing_of (refusal_at list i)
   unfolding refusal_at bind ingredient_refusal table_in
   table_answer e v h = rw (e, ← v) h
 
-  pub matrix_answer : {rows columns p entries_at : ℕ} {finding : MatrixFinding} → ingredient_at (read_order list) i ≡ MatrixAt rows columns p entries_at → finding ≡ matrix_verdict (matrix_in list rows columns p entries_at) → r ≡ passing_of (matrix_refusal i finding) → r ≡ passing_of (refusal_at list i)
+  pub matrix_answer : {rows columns p entries_at : ℕ} {finding : Result (Unit {0}) DifferenceFault} → ingredient_at (read_order list) i ≡ Some (MatrixAt rows columns p entries_at) → finding ≡ matrix_verdict (matrix_in list rows columns p entries_at) → r ≡ passing_of (matrix_refusal i finding) → r ≡ passing_of (refusal_at list i)
   unfolding refusal_at bind ingredient_refusal
   matrix_answer e v h = rw (e, ← v) h
 
-  pub generator_answer : {t n s widths_at width entries_at : ℕ} {finding : GeneratorFinding} → ingredient_at (read_order list) i ≡ GeneratorAt t n s widths_at width entries_at → finding ≡ generator_verdict (generator_in list t n s widths_at width entries_at) → r ≡ passing_of (generator_refusal i finding) → r ≡ passing_of (refusal_at list i)
+  pub generator_answer : {t n s widths_at width entries_at : ℕ} {finding : Result (Unit {0}) DependenceFault} → ingredient_at (read_order list) i ≡ Some (GeneratorAt t n s widths_at width entries_at) → finding ≡ generator_verdict (generator_in list t n s widths_at width entries_at) → r ≡ passing_of (generator_refusal i finding) → r ≡ passing_of (refusal_at list i)
   unfolding refusal_at bind ingredient_refusal
   generator_answer e v h = rw (e, ← v) h
 
-pub missing_answer : (list : List ℕ) (i : ℕ) → ingredient_at (read_order list) i ≡ NothingAt → AllPass ≡ passing_of (refusal_at list i)
+pub missing_answer : (list : List ℕ) (i : ℕ) → ingredient_at (read_order list) i ≡ None → Ok tt ≡ passing_of (refusal_at list i)
 unfolding refusal_at bind passing_of
 missing_answer list i e = rw e
 
@@ -96,12 +94,12 @@ rest_next list o reads k h =
     rw (add-one, ingredient_described list o reads k, reads) (refusal_next o.ingredients k (suc k) below ∙ rw (add-one (suc k)))
 
 -- an answer, and what is asked after it
-pub failing_first : (a b : Option Refusal) {why : Refusal} → passing_of a ≡ Refused why → Refused why ≡ passing_of (a or_else b)
+pub failing_first : (a b : Option Refusal) {why : Refusal} → passing_of a ≡ Err why → Err why ≡ passing_of (a or_else b)
 unfolding passing_of
-failing_first none b e = absurd (let z : ◌≡◌ {A = ℕ} 0 1 = cc in omega arith)
+failing_first none b e = cc
 failing_first (some x) b e = sym e
 
-pub passing_first : (a b : Option Refusal) → passing_of a ≡ AllPass → passing_of (a or_else b) ≡ passing_of b
+pub passing_first : (a b : Option Refusal) → passing_of a ≡ Ok tt → passing_of (a or_else b) ≡ passing_of b
 unfolding passing_of
 passing_first none b e = refl
-passing_first (some x) b e = absurd (let z : ◌≡◌ {A = ℕ} 0 1 = cc in omega arith)
+passing_first (some x) b e = cc

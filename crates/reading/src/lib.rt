@@ -7,27 +7,20 @@ ghost use Rattle.order.specs.Answers.{reading_of};
 
 use list_ingredients::counted_ingredients;
 use list_steps::counted_steps;
-use order::{Reading, Walk};
+use order::Refused;
 
 // Question 2: does the list read to its exact end?
-pub fn read(list: &[u16]) -> Reading
+pub fn read(list: &[u16]) -> Result<(), Refused>
     ensures { result ≡ reading_of (read_order list.now) }
 {
     if 32768 < list.len() {
-        return Reading::Refused { place: 32768 };
+        return Err(Refused { place: 32768 });
     }
-    match counted_ingredients(list) {
-        Walk::On { next } => match counted_steps(list, next) {
-            Walk::On { next: end } => {
-                let at = end.at;
-                if at < list.len() {
-                    Reading::Refused { place: at }
-                } else {
-                    Reading::Reads
-                }
-            }
-            Walk::Refused { place } => Reading::Refused { place },
-        },
-        Walk::Refused { place } => Reading::Refused { place },
+    let next = counted_ingredients(list)?;
+    let end = counted_steps(list, next)?;
+    let at = end.at;
+    if at < list.len() {
+        return Err(Refused { place: at });
     }
+    Ok(())
 }

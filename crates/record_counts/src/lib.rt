@@ -2,7 +2,7 @@
 #![tactic(auto)]
 
 ghost use Rattle.std.specs.Prelude.{◌≡◌};
-ghost use Rattle.record_counts.specs.Counts.{one_more, record_counted, answer_counted};
+ghost use Rattle.record_counts.specs.Counts.{record_counted, answer_counted};
 
 // How many orders were compared, and how many of them came to another answer than the stored one, or left other bytes.
 #[derive(Clone, Copy)]
@@ -11,27 +11,22 @@ pub struct Tally {
     pub differing: usize,
 }
 
-// The next number; the largest stays.
-fn one_more(n: usize) -> usize
-    ensures { result ≡ one_more n }
-{
-    if n < 18446744073709551615 { n + 1 } else { n }
-}
-
 // Counts an answer by its number, 0 for a filled order.
+#[tactic(auto, using(crate::proofs::Counts::one_more_min), unfolding(crate::specs::Counts::answer_counted))]
 pub fn count(counts: &mut [usize], number: usize)
     ensures { counts.new ≡ answer_counted number counts.old }
 {
     if number < counts.len() {
-        counts[number] = one_more(counts[number]);
+        counts[number] = counts[number].saturating_add(1);
     }
 }
 
 // Counts a record, which holds or differs.
+#[tactic(auto, using(crate::proofs::Counts::one_more_min), unfolding(crate::specs::Counts::record_counted))]
 pub fn record_counted(holds: bool, before: Tally) -> Tally
     ensures { result ≡ record_counted holds before }
 {
-    let records = one_more(before.records);
+    let records = before.records.saturating_add(1);
     if holds {
         return Tally {
             records,
@@ -40,6 +35,6 @@ pub fn record_counted(holds: bool, before: Tally) -> Tally
     }
     Tally {
         records,
-        differing: one_more(before.differing),
+        differing: before.differing.saturating_add(1),
     }
 }

@@ -13,7 +13,6 @@ use lib.ListN.{length, get_or, take, drop, take-append-drop}
 use lib.Seq.{drop_at, length-take-le}
 use Rattle.counting.specs.Table.{columns}
 use Rattle.words.specs.Words.{Reading, reading}
-use Rattle.words.specs.declared.Scanned.TheVariants as Scanned
 use Rattle.sheets.specs.Refusals.{numbered}
 use Rattle.sheets.specs.Steps.{Outcome, filled, refused}
 use Rattle.sheets.specs.declared.answer.Refusal.{Refusal}

@@ -35,7 +35,7 @@ fn item_room() -> [u8; 262144]
 }
 
 // Compares the orders of standard input, and prints how many came to each answer and which of them differ. A proved loop has to end, and nothing
-// says that the input does, so the pieces in which it is read are counted down from a number that no input reaches.
+// says that the input does, so the pieces in which it is read are counted up to a number that no input reaches.
 pub fn compare_all<R: Read>(rt: &impl Print, reader: &mut R) -> Tally
     ensures compared { Compared result }
     ensures differing_le_records { result.differing ≤ result.records }
@@ -55,17 +55,12 @@ pub fn compare_all<R: Read>(rt: &impl Print, reader: &mut R) -> Tally
         },
         held: 0,
     };
-    let mut pieces_left = u64::MAX;
-    while pieces_left > 0 {
-        let n = match reader.read(&mut piece) {
-            Ok(n) => n,
-            Err(_) => 0,
-        };
+    for _ in 0..u64::MAX {
+        let n = reader.read(&mut piece).unwrap_or(0);
         if n == 0 {
             break;
         }
         state = compare_piece(rt, &piece[..n], state, &mut item, &mut counts);
-        pieces_left -= 1;
     }
     let tally = state.tally;
     match print_counts(rt, &counts, tally) {
@@ -88,10 +83,8 @@ fn compare_piece(
     ensures counts_after { progress_of result item.new counts.new ≡ after_text (length item.old) (progress_of before item.old counts.old) piece.now }
 {
     let mut state = before;
-    let mut i = 0;
-    while i < piece.len() {
-        state = compare_byte(rt, piece[i], state, item, counts);
-        i += 1;
+    for byte in piece {
+        state = compare_byte(rt, *byte, state, item, counts);
     }
     state
 }
@@ -169,6 +162,7 @@ fn compare_item(
 }
 
 // After a record with these bytes. One that fills its room may lack bytes, and counts as differing.
+#[tactic(auto, using(record_texts::proofs::Texts::record_counted_lem))]
 fn compare_record(
     rt: &impl Print,
     bytes: &[u8],

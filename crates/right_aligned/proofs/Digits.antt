@@ -1,17 +1,14 @@
--- A number below 1,000 right-aligned in 3 is its hundreds and its tens, each a blank where there are none, and its last digit; and blanks one by one.
+-- A number below 1,000 right-aligned in 3 is its hundreds and its tens, each a blank where there are none, and its last digit.
 -- Assumes nothing.
 use mathlib.Core.Path.{◌≡◌}
 use mathlib.Core.Logic.{by_cases}
-use mathlib.Core.List.{List, [], ◌∷◌}
-use Prim.Native.Nat.{ℕ, ◌+◌, ◌-◌, ◌/◌, ◌%◌, ◌≤◌, ◌<◌}
+use mathlib.Core.List.{[], ◌∷◌}
+use Prim.Native.Nat.{ℕ, ◌+◌, ◌/◌, ◌%◌, ◌≤◌, ◌<◌}
 use native.Mathlib.Decide.{dec_lt}
 use native.Mathlib.Omega.{arith}
 use borrow.Author.Tests.{eq-eqb, ne_eqb}
-use lib.ListN.{length, replicate-append-replicate}
-use Rattle.buffers.specs.Put.{Put}
-use Rattle.buffers.proofs.Puts.{put_none, put_join}
 use Rattle.decimals.proofs.Decimals.{decimal_one, decimal_more}
-use Rattle.page_text.specs.Pages.{blanks, right_aligned}
+use Rattle.page_text.specs.Pages.{right_aligned}
 use Rattle.right_aligned.specs.Digits.{leading}
 
 -- no digit, and one
@@ -46,13 +43,3 @@ pub in_three : (n : ℕ) → n < 1000 → right_aligned 3 n ≡ leading (n / 100
 in_three n h =
     by_cases (dec_lt n 10) (λ (one : n < 10). one_digit n one)
     (λ ten. by_cases (dec_lt n 100) (λ (two : n < 100). two_digits n (omega arith) two) (λ hundred. three_digits n (omega arith) h))
-
--- ---- blanks one by one
-
-pub blanks_none : (before : List ℕ) (at : ℕ) → at ≤ length before → Put before at (blanks (at - at)) before at
-blanks_none before at h = let none : at - at ≡ 0 = omega arith in rw none (put_none before at h)
-
-pub blanks_next : {a b c : List ℕ} {i j k : ℕ} → Put a i (blanks (j - i)) b j → Put b j (32 ∷ []) c k → Put a i (blanks (k - i)) c k
-blanks_next {i = i} {j = j} {k = k} p q =
-    let more : k - i ≡ (j - i) + 1 = omega (arith, p.ends, q.ends) in
-    rw more (rw (replicate-append-replicate {A = ℕ} (j - i) 1 32) at (put_join p q))

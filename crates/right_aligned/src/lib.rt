@@ -43,9 +43,6 @@ pub fn put_blanks(buf: &mut [u8], at: usize, end: usize) -> usize
     requires { (at ≤ end) × (end ≤ length buf.old) }
     ensures { Put buf.old at (blanks (end - at)) buf.new result }
 {
-    let mut place = at;
-    while place < end {
-        place = put_byte(buf, place, b' ');
-    }
-    place
+    buf[at..end].fill(b' ');
+    end
 }

@@ -9,8 +9,8 @@ use lib.Dec.{ltb}
 use lib.ListN.{length, get_or, take, drop, replicate, length-drop, length-replicate, get_or-replicate}
 use lib.Seq.{length-take-le}
 use Rattle.order.specs.Range.{first_failing, earlier, is_in_range}
-use Rattle.order.specs.declared.Entries.{Entries}
-use Rattle.order.specs.declared.Entries.TheVariants.{InRange, OutOfRange, Unread}
+use Rattle.std.specs.Prelude.{Result, Ok, Err}
+use Rattle.order.specs.declared.RangeFault.{RangeFault}
 use Rattle.order.proofs.Segment.{Segment, segment_at}
 use Rattle.order.proofs.Failing.{failing_same, failing_parts, failing_from}
 use Rattle.row_limits.specs.High.{high_in_row, high_in_rows}
@@ -54,36 +54,34 @@ module _ {list : List ℕ} {start next : ℕ} {u : List ℕ} (s : Segment list s
       rows
       (rw length-replicate size)
 
--- One of the rows that are left to search.
-on_from : (here rest : Entries) → is_in_range here ≡ true → earlier here rest ≡ rest
-on_from InRange rest e = refl
-on_from (OutOfRange place) rest e = absurd (false≢true e)
-on_from Unread rest e = absurd (false≢true e)
+-- One of so many rows, after some of them.
+on_from : (here rest : Result (Unit {0}) RangeFault) → is_in_range here ≡ true → earlier here rest ≡ rest
+on_from (Ok asked) rest e = refl
+on_from (Err fault) rest e = absurd (false≢true e)
 
-stop_at : (here rest : Entries) → is_in_range here ≡ false → earlier here rest ≡ here
-stop_at InRange rest e = absurd (true≢false e)
-stop_at (OutOfRange place) rest e = refl
-stop_at Unread rest e = refl
+stop_at : (here rest : Result (Unit {0}) RangeFault) → is_in_range here ≡ false → earlier here rest ≡ here
+stop_at (Ok asked) rest e = absurd (true≢false e)
+stop_at (Err fault) rest e = refl
 
-module _ (list : List ℕ) (at : ℕ) (limits : List ℕ) where
-  pub rows_on : (left : ℕ) → 0 < left → is_in_range (high_in_row list at limits) ≡ true →
-      high_in_rows list at left limits ≡ high_in_rows list (at + length limits) (left - 1) limits
-  rows_on zero h e = absurd (omega arith)
-  rows_on (suc left) h e = let less : suc left - 1 ≡ left = omega arith in rw less (on_from (high_in_row list at limits) _ e)
+module _ (list : List ℕ) (at : ℕ) (limits : List ℕ) (rows done : ℕ) where
+  pub rows_on : done < rows → is_in_range (high_in_row list at limits) ≡ true →
+      high_in_rows list at (rows - done) limits ≡ high_in_rows list (at + length limits) (rows - (done + 1)) limits
+  rows_on h e =
+      let more : rows - done ≡ suc (rows - (done + 1)) = omega arith in
+      rw more (on_from (high_in_row list at limits) _ e)
 
-  pub rows_stop : (left : ℕ) → 0 < left → is_in_range (high_in_row list at limits) ≡ false →
-      high_in_rows list at left limits ≡ high_in_row list at limits
-  rows_stop zero h e = absurd (omega arith)
-  rows_stop (suc left) h e = stop_at (high_in_row list at limits) _ e
+  pub rows_stop : done < rows → is_in_range (high_in_row list at limits) ≡ false →
+      high_in_rows list at (rows - done) limits ≡ high_in_row list at limits
+  rows_stop h e =
+      let more : rows - done ≡ suc (rows - (done + 1)) = omega arith in
+      rw more (stop_at (high_in_row list at limits) _ e)
 
-  pub rows_done : (left : ℕ) → left ≤ 0 → high_in_rows list at left limits ≡ InRange
-  rows_done zero h = refl
-  rows_done (suc left) h = absurd (omega arith)
+  pub rows_done : rows ≤ done → high_in_rows list at (rows - done) limits ≡ Ok tt
+  rows_done h = let none : rows - done ≡ 0 = omega arith in rw none
 
 -- How many numbers the rows that are left have: those of one, and of the others.
-pub row_first : (left columns : ℕ) → 0 < left → left * columns ≡ columns + (left - 1) * columns
-row_first zero columns h = absurd (omega arith)
-row_first (suc left) columns h = let less : suc left - 1 ≡ left = omega arith in rw (less, suc-mul) (omega arith)
+pub row_first : (rows done columns : ℕ) → done < rows → (rows - done) * columns ≡ columns + (rows - (done + 1)) * columns
+row_first rows done columns h = let more : rows - done ≡ suc (rows - (done + 1)) = omega arith in rw (more, suc-mul) (omega arith)
 
 -- The limits as the code lends them, and how many there are: the first of many that are all x, and level counts from a place of the list on.
 pub limits_one : (n most x : ℕ) → n ≤ most → take n (replicate most x) ≡ replicate n x

@@ -5,7 +5,7 @@ ghost use Rattle.std.specs.Prelude.{◌≡◌, ◌+◌, ◌*◌, ◌≤◌, ◌<
 ghost use Rattle.order.specs.Range.{is_in_range};
 ghost use Rattle.row_limits.specs.High.{high_in_row, high_in_rows};
 
-use order::Entries;
+use order::RangeFault;
 
 // Whether every number of the row that starts at start is below its limit. Each is compared, whatever the ones before it were, so that the
 // compiler can have several compared at once.
@@ -14,46 +14,40 @@ fn row_in_range(list: &[u16], start: usize, limits: &[u16]) -> bool
     ensures { result ≡ is_in_range (high_in_row list.now start limits.now) }
 {
     let mut all = true;
-    let mut column = 0;
-    while column < limits.len() {
+    for column in 0..limits.len() {
         all = all & (list[start + column] < limits[column]);
-        column += 1;
     }
     all
 }
 
 // The first number of the row that is not below its limit.
-fn first_high_in_row(list: &[u16], start: usize, limits: &[u16]) -> Entries
+fn first_high_in_row(list: &[u16], start: usize, limits: &[u16]) -> Result<(), RangeFault>
     requires { start + length limits.now ≤ length list.now }
     ensures { result ≡ high_in_row list.now start limits.now }
 {
-    let mut column = 0;
-    while column < limits.len() {
+    for column in 0..limits.len() {
         if limits[column] <= list[start + column] {
             let place = start + column;
-            return Entries::OutOfRange { place };
+            return Err(RangeFault::OutOfRange { place });
         }
-        column += 1;
     }
-    Entries::InRange
+    Ok(())
 }
 
 // The first number of so many rows from start on that is not below its limit. Every row has the same limits. Only the row that has such a
 // number is gone through number by number.
-pub fn first_high(list: &[u16], start: usize, rows: usize, limits: &[u16]) -> Entries
+pub fn first_high(list: &[u16], start: usize, rows: usize, limits: &[u16]) -> Result<(), RangeFault>
     requires { start + rows * length limits.now ≤ length list.now }
     ensures { result ≡ high_in_rows list.now start rows limits.now }
 {
     let mut at = start;
-    let mut left = rows;
-    while 0 < left {
+    for _ in 0..rows {
         if !row_in_range(list, at, limits) {
             return first_high_in_row(list, at, limits);
         }
         at += limits.len();
-        left -= 1;
     }
-    Entries::InRange
+    Ok(())
 }
 
 // The same where every number has the same limit. A row is at most as long as that of a generator of 128 factors of width 6.
@@ -63,7 +57,7 @@ pub fn first_not_below(
     rows: usize,
     columns: usize,
     limit: usize,
-) -> Entries
+) -> Result<(), RangeFault>
     requires { ((columns ≤ 768) × (limit < 65536)) × (start + rows * columns ≤ length list.now) }
     ensures { result ≡ high_in_rows list.now start rows (replicate columns limit) }
 {

@@ -1,8 +1,8 @@
 -- Laws of the lines in specs/Rows.antt: a number more, and the lines as the parts that are put one after the other.
 use mathlib.Core.Path.{◌≡◌, refl, sym, ◌∙◌, ap}
 use mathlib.Core.List.{List, [], ◌∷◌, ◌++◌, append_assoc, append-nil}
-use Prim.Native.Nat.{ℕ, ◌+◌, ◌*◌, ◌-◌, ◌≤◌, ◌<◌, zero-le}
-use native.Mathlib.Nat.{le_refl, add-zero, mul-zero, mul-suc, mul-le-mul_left}
+use Prim.Native.Nat.{ℕ, ◌+◌, ◌*◌, ◌-◌, ◌≤◌, ◌<◌, suc-le-suc}
+use native.Mathlib.Nat.{mul-suc, mul-le-mul_left}
 use native.Mathlib.Numerals.{add-one}
 use native.Mathlib.Omega.{arith}
 use lib.ListN.{length, get_or, take, drop, length-drop}
@@ -10,7 +10,10 @@ use lib.Seq.{take-suc, take_all}
 use Rattle.buffers.specs.Put.{Put}
 use Rattle.decimals.specs.Decimals.{decimal_digits}
 use Rattle.rows.specs.Rows.{spaced, line}
-use Rattle.buffers.proofs.Puts.{put_none, put_join, put_length}
+use Rattle.decimals.proofs.Decimals.{decimal_byte}
+use mir.Syntax.{w8}
+use mir.Val.{Fits}
+use Rattle.buffers.proofs.Puts.{put_join, put_length}
 
 spaced_snoc : (ns : List ℕ) (n : ℕ) → spaced (ns ++ (n ∷ [])) ≡ spaced ns ++ (32 ∷ decimal_digits n)
 spaced_snoc [] n = append-nil (32 ∷ decimal_digits n)
@@ -18,22 +21,17 @@ spaced_snoc (m ∷ ns) n =
     ap (λ (l : List ℕ). (32 ∷ decimal_digits m) ++ l) (spaced_snoc ns n)
     ∙ sym (append_assoc (32 ∷ decimal_digits m) (spaced ns) (32 ∷ decimal_digits n))
 
+-- A byte has fewer than 4 digits.
+pub byte_short : {n : ℕ} → Fits w8 n → length (decimal_digits n) < 4
+byte_short {n} byte = suc-le-suc (decimal_byte n byte.fits)
+
 -- The first n of some numbers are put, each with a space before it and in at most w bytes.
 pub record First (w : ℕ) (ns a : List ℕ) (i n : ℕ) (b : List ℕ) (j : ℕ) : Type 0 where
   pub among : n ≤ length ns
   pub put : Put a i (spaced (take n ns)) b j
   pub small : j ≤ i + w * n
 
-pub first_none : (w : ℕ) (ns a : List ℕ) (i : ℕ) → i ≤ length a → First w ns a i 0 a i
-first_none w ns a i h = record { among = zero-le; put = put_none a i h; small = rw (mul-zero, add-zero) (le_refl i) }
-
 module _ {w : ℕ} {ns a : List ℕ} {i n : ℕ} {b : List ℕ} {j : ℕ} (f : First w ns a i n b j) where
-  pub first_all : length ns ≤ n → Put a i (spaced ns) b j
-  first_all h = rw (take_all n ns h) at f.put
-
-  pub first_end : i + w * length ns < length a → j < length b
-  first_end room = omega (arith, f.small, put_length f.put, mul-le-mul_left w f.among)
-
   -- The next number, where there is one and it has fewer than w digits.
   module _ (h : n < length ns) (short : length (decimal_digits (get_or ns n 0)) < w) where
     pub first_room : i + w * length ns < length a → j + length (decimal_digits (get_or ns n 0)) < length b

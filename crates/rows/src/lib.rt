@@ -25,10 +25,8 @@ fn end_with_cells(buf: &mut [u8], at: usize, cells: &[u8]) -> usize
     ensures { Put buf.old at (spaced cells.now ++ (10 ∷ [])) buf.new result }
 {
     let mut place = at;
-    let mut i = 0;
-    while i < cells.len() {
-        place = put_spaced(buf, place, cells[i] as usize);
-        i += 1;
+    for cell in cells {
+        place = put_spaced(buf, place, *cell as usize);
     }
     put_byte(buf, place, b'\n')
 }

@@ -6,7 +6,7 @@ ghost use Rattle.std.specs.Prelude.{◌≡◌};
 ghost use Rattle.words.specs.Scanner.{advanced, finished};
 
 use byte_scanning::{step, store};
-use words::{Scan, Scanned};
+use words::{BadWord, Scan};
 
 // Before a text's first byte.
 pub fn start() -> Scan
@@ -16,25 +16,25 @@ pub fn start() -> Scan
 }
 
 // After a piece of the text more, of any length.
+#[tactic(auto, using(words::proofs::Steps::advanced_drop, words::proofs::Steps::advanced_end))]
 pub fn piece(scan: Scan, bytes: &[u8], list: &mut [u16; 32768]) -> Scan
     ensures { (result, list.new) ≡ advanced (scan, list.old) bytes.now }
 {
     let mut state = scan;
-    let mut i = 0;
-    while i < bytes.len() {
-        state = step(state, bytes[i], list);
-        i += 1;
+    for byte in bytes {
+        state = step(state, *byte, list);
     }
     state
 }
 
 // At the end of the text, which ends a word begun.
-pub fn finish(scan: Scan, list: &mut [u16; 32768]) -> Scanned
+#[tactic(auto, unfolding(words::specs::Scanner::finished))]
+pub fn finish(scan: Scan, list: &mut [u16; 32768]) -> Result<usize, BadWord>
     ensures { (result, list.new) ≡ finished (scan, list.old) }
 {
     match scan {
-        Scan::Between { count } => Scanned::Numbers { count },
+        Scan::Between { count } => Ok(count),
         Scan::Inside { count, value } => store(count, value, list),
-        Scan::Failed { place } => Scanned::Refused { place },
+        Scan::Failed { place } => Err(BadWord { place }),
     }
 }

@@ -1,5 +1,6 @@
 -- One step of the list: where it stands, and whether its kind may stand at its number.
 -- Assumes nothing.
+use Rattle.std.specs.Prelude.{Some, None}
 use mathlib.Core.Path.{◌≡◌, refl, sym, ◌∙◌, ap}
 use mathlib.Core.Logic.{◌≢◌, ◌⊎◌, inl, inr, ⊎_elim, by_cases}
 use mathlib.Core.Bool.{Bool, true, false, true≢false}
@@ -17,7 +18,7 @@ use Rattle.order.specs.Reader.{when}
 use Rattle.order.specs.Answers.{kind_of}
 use Rattle.order.specs.Grammar.{read_order}
 use Rattle.places.specs.Places.{step_at, step_in, operands_of}
-use Rattle.places.specs.declared.Placed.TheVariants.{Step as StepAt, Missing}
+use Rattle.order.specs.declared.Stage.{Stage}
 use Rattle.places.proofs.Stands.{step_described}
 use Rattle.sheets.specs.Steps.{refused, provided, opening, operation, sized, first_step, later_step}
 use Rattle.sheets.specs.declared.answer.Refusal.TheVariants.{StepNotAllowed}
@@ -63,10 +64,10 @@ module _ (n kind : ℕ) where
 
 module _ {list : List ℕ} (read : Readable list) where
   -- what a look-up of step number k + 1 gives
-  looked_up : (k kind at : ℕ) → step_at (read_order list) (suc k) ≡ StepAt kind at → get_elem? read.order.steps k ≡ some (operands_of list kind at)
-  looked_up k kind at found = sym (step_described list read.order read.reads k) ∙ ap (step_in list) found
+  looked_up : (k : ℕ) (s : Stage) → step_at (read_order list) (suc k) ≡ Some s → get_elem? read.order.steps k ≡ some (operands_of list s.kind s.operands_at)
+  looked_up k s found = sym (step_described list read.order read.reads k) ∙ ap (step_in list) found
 
-  not_there : (k : ℕ) → step_at (read_order list) (suc k) ≡ Missing → get_elem? read.order.steps k ≡ none
+  not_there : (k : ℕ) → step_at (read_order list) (suc k) ≡ None → get_elem? read.order.steps k ≡ none
   not_there k found = sym (step_described list read.order read.reads k) ∙ ap (step_in list) found
 
   -- step number k + 1 by what the look-up gives
@@ -78,13 +79,13 @@ module _ {list : List ℕ} (read : Readable list) where
       ∙ ap (λ j. provided (get_elem? read.order.steps j) (StepNotAllowed (suc k)) (step_on read.order (suc k) hand)) (let same : suc k - 1 ≡ k = omega arith in same)
       ∙ ap (λ x. provided x (StepNotAllowed (suc k)) (step_on read.order (suc k) hand)) there
 
-  pub proceed_found : (n : ℕ) → 1 ≤ n → (hand : Option Table) (kind at : ℕ) → step_at (read_order list) n ≡ StepAt kind at
-      → proceed_in list n hand ≡ numbered_in list n hand kind at
+  pub proceed_found : (n : ℕ) → 1 ≤ n → (hand : Option Table) (s : Stage) → step_at (read_order list) n ≡ Some s
+      → proceed_in list n hand ≡ numbered_in list n hand s.kind s.operands_at
   unfolding provided numbered_in
-  proceed_found zero h hand kind at found = absurd (omega arith)
-  proceed_found (suc k) h hand kind at found = proceed_next k hand (looked_up k kind at found) ∙ sym (in_order_lem read _)
+  proceed_found zero h hand s found = absurd (omega arith)
+  proceed_found (suc k) h hand s found = proceed_next k hand (looked_up k s found) ∙ sym (in_order_lem read _)
 
-  pub proceed_missing : (n : ℕ) → 1 ≤ n → (hand : Option Table) → step_at (read_order list) n ≡ Missing → proceed_in list n hand ≡ refused (StepNotAllowed n)
+  pub proceed_missing : (n : ℕ) → 1 ≤ n → (hand : Option Table) → step_at (read_order list) n ≡ None → proceed_in list n hand ≡ refused (StepNotAllowed n)
   unfolding provided
   proceed_missing zero h hand found = absurd (omega arith)
   proceed_missing (suc k) h hand found = proceed_next k hand (not_there k found)

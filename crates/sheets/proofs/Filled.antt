@@ -6,12 +6,13 @@ use mathlib.Core.Logic.{◌↔◌, ◌≢◌}
 use mathlib.Core.List.{List}
 use mathlib.Core.Option.{Option, none, some}
 use Prim.Native.Nat.{ℕ}
+use Rattle.std.specs.Prelude.{Err}
 use Rattle.counting.specs.Table.{Table}
 use Rattle.order.specs.Order.{Order, All}
 use Rattle.order.specs.Reader.{Parsed, value, refused as unread}
 use Rattle.order.specs.Grammar.{read_order, Reads}
 use Rattle.order.specs.Range.{range_of}
-use Rattle.order.specs.declared.Entries.TheVariants.{Unread}
+use Rattle.order.specs.declared.RangeFault.TheVariants.{Unread}
 use Rattle.order.proofs.OrderLaw.{reads_iff}
 use Rattle.order.proofs.InRange.{range_iff}
 use Rattle.step_tables.specs.Sheet.{Sound, SmallEnough}
@@ -42,9 +43,9 @@ outcome_read list o reads =
     refl
 
 -- question 3 is asked of it
-pub asked : (list : List ℕ) (o : Order) → Reads list o → range_of (read_order list) ≢ Unread
+pub asked : (list : List ℕ) (o : Order) → Reads list o → range_of (read_order list) ≢ Err Unread
 unfolding range_of
-asked list o reads = subst (λ r. range_of r ≢ Unread) (sym reads) (range_asked 1 o.ingredients)
+asked list o reads = subst (λ r. range_of r ≢ Err Unread) (sym reads) (range_asked 1 o.ingredients)
 
 -- From no sheet, every sheet on the way to the table that a fillable list orders is an orthogonal array of strength two, within the limits.
 pub every_sheet : (list : List ℕ) (f : Fillable list)

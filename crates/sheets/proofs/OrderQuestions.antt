@@ -10,27 +10,25 @@ use Prim.Native.Nat.{ℕ, zero, suc, ◌+◌, ◌<◌}
 use native.Mathlib.Omega.{arith}
 use lib.Dec.{ltb}
 use lib.ListN.{length, get_or}
+use Rattle.std.specs.Prelude.{Result, Ok, Err}
 use Rattle.finite.specs.First.{◌or_else◌}
 use Rattle.counting.specs.Table.{table_of}
 use Rattle.counting.specs.Matrix.{matrix_of}
 use Rattle.counting.specs.Generator.{generator_of}
 use Rattle.counting.specs.declared.verdict.TableFault.TheVariants.{Column, Pair}
-use Rattle.counting.specs.declared.verdict.TableFinding.{TableFinding}
-use Rattle.counting.specs.declared.verdict.TableFinding.TheVariants.{Passes, Fails}
-use Rattle.counting.specs.declared.verdict.MatrixFinding.{MatrixFinding}
-use Rattle.counting.specs.declared.verdict.MatrixFinding.TheVariants as MatrixFinding
-use Rattle.counting.specs.declared.verdict.GeneratorFinding.{GeneratorFinding}
-use Rattle.counting.specs.declared.verdict.GeneratorFinding.TheVariants as GeneratorFinding
 use Rattle.counting.proofs.TableVerdicts.{table_passes}
 use Rattle.counting.proofs.MatrixVerdicts.{matrix_passes}
 use Rattle.counting.proofs.GeneratorVerdicts.{generator_passes}
+use Rattle.counting.specs.declared.verdict.TableFault.{TableFault}
+use Rattle.counting.specs.declared.verdict.DifferenceFault.{DifferenceFault}
+use Rattle.counting.specs.declared.verdict.DependenceFault.{DependenceFault}
 use Rattle.order.specs.Order.{Ingredient, table, matrix, generator, Order, All, IngredientLimits, written_ingredient, entries_of}
 use Rattle.order.specs.Reader.{Parsed, value, refused as unread, when, continue}
 use Rattle.order.specs.Grammar.{at_end, read_parts, read_order}
 use Rattle.order.specs.Answers.{entries_from}
 use Rattle.order.specs.Range.{bound, first_failing, ingredient_range, earlier, ingredients_range}
-use Rattle.order.specs.declared.Entries.{Entries}
-use Rattle.order.specs.declared.Entries.TheVariants.{InRange, OutOfRange, Unread}
+use Rattle.order.specs.declared.RangeFault.{RangeFault}
+use Rattle.order.specs.declared.RangeFault.TheVariants.{OutOfRange, Unread}
 use Rattle.sheets.specs.Outcome.{range_refusal, table_refusal, matrix_refusal, generator_refusal, ingredient_refusal, ingredients_refusal}
 use Rattle.sheets.specs.Fillable.{MeetsDefinition}
 
@@ -39,10 +37,10 @@ use Rattle.sheets.specs.Fillable.{MeetsDefinition}
 unread_not_value : {place end : ℕ} {o : Order} → unread place ≡ value o end → ⊥
 unread_not_value e = let z : ◌≡◌ {A = ℕ} 0 1 = cc in omega arith
 
-in_range_asked : InRange ≢ Unread
+in_range_asked : ◌≢◌ {A = Result (Unit {0}) RangeFault} (Ok tt) (Err Unread)
 in_range_asked e = let z : ◌≡◌ {A = ℕ} 0 1 = cc in omega arith
 
-out_of_range_asked : {place : ℕ} → OutOfRange place ≢ Unread
+out_of_range_asked : {place : ℕ} → ◌≢◌ {A = Result (Unit {0}) RangeFault} (Err (OutOfRange place)) (Err Unread)
 out_of_range_asked e = let z : ◌≡◌ {A = ℕ} 0 1 = cc in omega arith
 
 -- ---- question 2
@@ -64,52 +62,51 @@ reads_whole list o end e = ends list (ltb 32768 (length list)) (read_parts list 
 
 -- ---- question 3
 
-when_asked : (b : Bool) (x y : Entries) → x ≢ Unread → y ≢ Unread → when b x y ≢ Unread
+when_asked : (b : Bool) (x y : Result (Unit {0}) RangeFault) → x ≢ Err Unread → y ≢ Err Unread → when b x y ≢ Err Unread
 when_asked true x y h k = h
 when_asked false x y h k = k
 
-failing_asked : (ok : ℕ → Bool) (start left q : ℕ) → first_failing ok start left q ≢ Unread
+failing_asked : (ok : ℕ → Bool) (start left q : ℕ) → first_failing ok start left q ≢ Err Unread
 failing_asked ok start zero q = in_range_asked
 failing_asked ok start (suc left) q = when_asked (ok q) _ _ (failing_asked ok start left (q + 1)) out_of_range_asked
 
-earlier_asked : (x y : Entries) → x ≢ Unread → y ≢ Unread → earlier x y ≢ Unread
-earlier_asked InRange y h k = k
-earlier_asked (OutOfRange place) y h k = out_of_range_asked
-earlier_asked Unread y h k = h
+earlier_asked : (x y : Result (Unit {0}) RangeFault) → x ≢ Err Unread → y ≢ Err Unread → earlier x y ≢ Err Unread
+earlier_asked (Ok asked) y h k = k
+earlier_asked (Err fault) y h k = h
 
-ingredient_asked : (from : ℕ) (g : Ingredient) → ingredient_range from g ≢ Unread
+ingredient_asked : (from : ℕ) (g : Ingredient) → ingredient_range from g ≢ Err Unread
 unfolding ingredient_range
 ingredient_asked from g =
     failing_asked (λ q. ltb (get_or (entries_of g) q 0) (bound g q)) (entries_from from g) (length (entries_of g)) 0
 
 -- the question is asked of every order that was read
-pub range_asked : (at : ℕ) (gs : List Ingredient) → ingredients_range at gs ≢ Unread
+pub range_asked : (at : ℕ) (gs : List Ingredient) → ingredients_range at gs ≢ Err Unread
 range_asked at [] = in_range_asked
 range_asked at (g ∷ gs) = earlier_asked (ingredient_range (at + 3) g) _ (ingredient_asked (at + 3) g) (range_asked (at + length (written_ingredient g)) gs)
 
-pub range_passes : (x : Entries) → x ≢ Unread → range_refusal x ≡ none → x ≡ InRange
+pub range_passes : (x : Result (Unit {0}) RangeFault) → x ≢ Err Unread → range_refusal x ≡ none → x ≡ Ok tt
 unfolding range_refusal
-range_passes InRange h e = refl
-range_passes (OutOfRange place) h e = absurd (some-ne-none _ e)
-range_passes Unread h e = absurd (h refl)
+range_passes (Ok tt) h e = refl
+range_passes (Err (OutOfRange place)) h e = absurd (some-ne-none _ e)
+range_passes (Err Unread) h e = absurd (h refl)
 
 -- ---- question 4
 
-table_passed : (i : ℕ) (f : TableFinding) → table_refusal i f ≡ none → f ≡ Passes
+table_passed : (i : ℕ) (f : Result (Unit {0}) TableFault) → table_refusal i f ≡ none → f ≡ Ok tt
 unfolding table_refusal
-table_passed i Passes e = refl
-table_passed i (Fails (Column c x times)) e = absurd (some-ne-none _ e)
-table_passed i (Fails (Pair c d x y times)) e = absurd (some-ne-none _ e)
+table_passed i (Ok tt) e = refl
+table_passed i (Err (Column c x times)) e = absurd (some-ne-none _ e)
+table_passed i (Err (Pair c d x y times)) e = absurd (some-ne-none _ e)
 
-matrix_passed : (i : ℕ) (f : MatrixFinding) → matrix_refusal i f ≡ none → f ≡ MatrixFinding.Passes
+matrix_passed : (i : ℕ) (f : Result (Unit {0}) DifferenceFault) → matrix_refusal i f ≡ none → f ≡ Ok tt
 unfolding matrix_refusal
-matrix_passed i MatrixFinding.Passes e = refl
-matrix_passed i (MatrixFinding.Fails fault) e = absurd (some-ne-none _ e)
+matrix_passed i (Ok tt) e = refl
+matrix_passed i (Err fault) e = absurd (some-ne-none _ e)
 
-generator_passed : (i : ℕ) (f : GeneratorFinding) → generator_refusal i f ≡ none → f ≡ GeneratorFinding.Passes
+generator_passed : (i : ℕ) (f : Result (Unit {0}) DependenceFault) → generator_refusal i f ≡ none → f ≡ Ok tt
 unfolding generator_refusal
-generator_passed i GeneratorFinding.Passes e = refl
-generator_passed i (GeneratorFinding.Fails fault) e = absurd (some-ne-none _ e)
+generator_passed i (Ok tt) e = refl
+generator_passed i (Err fault) e = absurd (some-ne-none _ e)
 
 -- an ingredient is not refused exactly where it meets its definition
 pub ingredient_decides : (i : ℕ) (g : Ingredient) → IngredientLimits g → (ingredient_refusal i g ≡ none) ↔ MeetsDefinition g

@@ -1,5 +1,5 @@
 -- What a list comes to: document 01, "The questions, in turn", questions 2 to 8. The first No refuses the order; with no No it is filled.
-use Rattle.std.specs.Prelude.{List, [], ◌∷◌, ℕ, ◌+◌}
+use Rattle.std.specs.Prelude.{List, [], ◌∷◌, ℕ, ◌+◌, Result, Ok, Err}
 use Rattle.std.proofs.Math.Option.{Option, none, some}
 use Rattle.finite.specs.First.{◌or_else◌}
 use Rattle.counting.specs.Table.{table_of}
@@ -8,43 +8,40 @@ use Rattle.counting.specs.Generator.{generator_of}
 use Rattle.counting.specs.Verdict.{table_verdict, matrix_verdict}
 use Rattle.counting.specs.GeneratorVerdict.{generator_verdict}
 use Rattle.counting.specs.declared.verdict.TableFault.TheVariants.{Column, Pair}
-use Rattle.counting.specs.declared.verdict.TableFinding.{TableFinding}
-use Rattle.counting.specs.declared.verdict.TableFinding.TheVariants.{Passes, Fails}
-use Rattle.counting.specs.declared.verdict.MatrixFinding.{MatrixFinding}
-use Rattle.counting.specs.declared.verdict.MatrixFinding.TheVariants as MatrixFinding
-use Rattle.counting.specs.declared.verdict.GeneratorFinding.{GeneratorFinding}
-use Rattle.counting.specs.declared.verdict.GeneratorFinding.TheVariants as GeneratorFinding
+use Rattle.counting.specs.declared.verdict.TableFault.{TableFault}
+use Rattle.counting.specs.declared.verdict.DifferenceFault.{DifferenceFault}
+use Rattle.counting.specs.declared.verdict.DependenceFault.{DependenceFault}
 use Rattle.order.specs.Order.{Ingredient, table, matrix, generator, Order}
 use Rattle.order.specs.Reader.{Parsed, value, refused as unread}
 use Rattle.order.specs.Grammar.{read_order}
 use Rattle.order.specs.Range.{range_of}
-use Rattle.order.specs.declared.Entries.{Entries}
-use Rattle.order.specs.declared.Entries.TheVariants.{InRange, OutOfRange, Unread}
+use Rattle.order.specs.declared.RangeFault.{RangeFault}
+use Rattle.order.specs.declared.RangeFault.TheVariants.{OutOfRange, Unread}
 use Rattle.sheets.specs.Steps.{Outcome, refused, all_steps}
 unfoldable pub use Rattle.sheets.specs.Steps.{unless}
 use Rattle.sheets.specs.declared.answer.Refusal.{Refusal}
 use Rattle.sheets.specs.declared.answer.Refusal.TheVariants.{Unreadable, EntryOutOfRange, UnevenLevel, UnevenPair, UnevenDifference, Dependent}
 
 -- Question 3: the first entry that is not below its levels, p or s. It is not asked of a list that does not read.
-unfoldable pub range_refusal : Entries → Option Refusal
-range_refusal InRange = none
-range_refusal (OutOfRange place) = some (EntryOutOfRange place)
-range_refusal Unread = none
+unfoldable pub range_refusal : Result (Unit {0}) RangeFault → Option Refusal
+range_refusal (Ok asked) = none
+range_refusal (Err (OutOfRange place)) = some (EntryOutOfRange place)
+range_refusal (Err Unread) = none
 
 -- Question 4, of ingredient number i: what counting finds, as a refusal.
-unfoldable pub table_refusal : ℕ → TableFinding → Option Refusal
-table_refusal i Passes = none
-table_refusal i (Fails (Column c x times)) = some (UnevenLevel i c x times)
-table_refusal i (Fails (Pair c d x y times)) = some (UnevenPair i c d x y times)
+unfoldable pub table_refusal : ℕ → Result (Unit {0}) TableFault → Option Refusal
+table_refusal i (Ok tt) = none
+table_refusal i (Err (Column c x times)) = some (UnevenLevel i c x times)
+table_refusal i (Err (Pair c d x y times)) = some (UnevenPair i c d x y times)
 
-unfoldable pub matrix_refusal : ℕ → MatrixFinding → Option Refusal
-matrix_refusal i MatrixFinding.Passes = none
-matrix_refusal i (MatrixFinding.Fails fault) =
+unfoldable pub matrix_refusal : ℕ → Result (Unit {0}) DifferenceFault → Option Refusal
+matrix_refusal i (Ok tt) = none
+matrix_refusal i (Err fault) =
     some (UnevenDifference i fault.first fault.second fault.difference fault.times)
 
-unfoldable pub generator_refusal : ℕ → GeneratorFinding → Option Refusal
-generator_refusal i GeneratorFinding.Passes = none
-generator_refusal i (GeneratorFinding.Fails fault) = some (Dependent i fault.first fault.second fault.coefficients)
+unfoldable pub generator_refusal : ℕ → Result (Unit {0}) DependenceFault → Option Refusal
+generator_refusal i (Ok tt) = none
+generator_refusal i (Err fault) = some (Dependent i fault.first fault.second fault.coefficients)
 
 unfoldable pub ingredient_refusal : ℕ → Ingredient → Option Refusal
 ingredient_refusal i (table rows levels entries) = table_refusal i (table_verdict (table_of entries levels rows)).finding

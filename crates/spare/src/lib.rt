@@ -15,10 +15,8 @@ pub fn spare_of(runs: usize, columns: usize, levels: &[u8]) -> i64
     ensures { result ≡ spare_of runs (take columns levels.now) }
 {
     let mut less = 1;
-    let mut column = 0;
-    while column < columns {
-        less += levels[column] as usize;
-        column += 1;
+    for count in &levels[..columns] {
+        less += *count as usize;
     }
     difference(runs + columns, less)
 }

@@ -31,9 +31,9 @@ unfolding give_way
 way_length c xs others h = simp (length-append, length-take, length-drop) (omega arith)
 
 -- run r of those that lie in bytes, as a part from its first byte up to its end
-pub run_part : (bytes : List ℕ) (m r start : ℕ) → start ≡ r * m → take (start + m - start) (drop start bytes) ≡ run_in bytes m r
+pub run_part : (bytes : List ℕ) (m r : ℕ) → take (r * m + m - r * m) (drop (r * m) bytes) ≡ run_in bytes m r
 unfolding run_in
-run_part bytes m r start e = let many : start + m - start ≡ m = omega arith in rw (many, e)
+run_part bytes m r = let many : r * m + m - r * m ≡ m = omega arith in rw many
 
 module _ (bytes : List ℕ) (runs m r : ℕ) (within : runs * m ≤ length bytes) (h : r < runs) where
   pub run_end : r * m + m ≤ length bytes

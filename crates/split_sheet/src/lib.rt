@@ -74,13 +74,10 @@ fn put_split_runs(
     let runs = size.runs;
     let width = size.columns;
     let mut place = 0;
-    let mut start = 0;
-    let mut run = 0;
-    while run < runs {
-        let end = start + width;
-        place = put_split_run(list, named, c, &table[start..end], buf, place);
-        start = end;
-        run += 1;
+    for run in 0..runs {
+        let start = run * width;
+        let row = &table[start..start + width];
+        place = put_split_run(list, named, c, row, buf, place);
     }
     place
 }

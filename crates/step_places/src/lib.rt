@@ -9,38 +9,25 @@ ghost use Rattle.step_places.specs.StepCount.{step_count};
 use list_ingredients::counted_ingredients;
 use list_numbers::number;
 use list_steps::{step, steps};
-use order::{Cursor, Number, Reading, Stage, Walk};
-use places::Placed;
+use order::{Cursor, Refused, Stage};
 use reading::read;
 
 // How many steps a list that reads has, and where the first stands.
-fn steps_start(list: &[u16]) -> Number
+fn steps_start(list: &[u16]) -> Result<(usize, Cursor), Refused>
     ensures { result ≡ steps_start (read_order list.now) }
 {
-    match read(list) {
-        Reading::Reads => match counted_ingredients(list) {
-            Walk::On { next } => number(list, next, 1, 16),
-            Walk::Refused { place } => Number::Refused { place },
-        },
-        Reading::Refused { place } => Number::Refused { place },
-    }
+    read(list)?;
+    let next = counted_ingredients(list)?;
+    number(list, next, 1, 16)
 }
 
 // The step after k others.
-fn step_after(list: &[u16], start: Cursor, k: usize) -> Placed
+fn step_after(list: &[u16], start: Cursor, k: usize) -> Option<Stage>
     ensures { result ≡ step_after k list.now start.at }
 {
-    match steps(list, start, k) {
-        Walk::On { next } => match step(list, next) {
-            Stage::Found {
-                kind,
-                operands_at,
-                next: _,
-            } => Placed::Step { kind, operands_at },
-            Stage::Refused { place: _ } => Placed::Missing,
-        },
-        Walk::Refused { place: _ } => Placed::Missing,
-    }
+    let next = steps(list, start, k).ok()?;
+    let (found, _) = step(list, next).ok()?;
+    Some(found)
 }
 
 // How many steps the list has.
@@ -48,25 +35,21 @@ pub fn step_count(list: &[u16]) -> usize
     ensures { result ≡ step_count (read_order list.now) }
 {
     match steps_start(list) {
-        Number::Is { value: z, next: _ } => z,
-        Number::Refused { place: _ } => 0,
+        Ok((z, _)) => z,
+        Err(_) => 0,
     }
 }
 
 // Step number k.
-pub fn step_at(list: &[u16], k: usize) -> Placed
+pub fn step_at(list: &[u16], k: usize) -> Option<Stage>
     ensures { result ≡ step_at (read_order list.now) k }
 {
-    match steps_start(list) {
-        Number::Is { value: z, next } => {
-            if k == 0 {
-                return Placed::Missing;
-            }
-            if z < k {
-                return Placed::Missing;
-            }
-            step_after(list, next, k - 1)
-        }
-        Number::Refused { place: _ } => Placed::Missing,
+    let (z, next) = steps_start(list).ok()?;
+    if k == 0 {
+        return None;
     }
+    if z < k {
+        return None;
+    }
+    step_after(list, next, k - 1)
 }

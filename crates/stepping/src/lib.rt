@@ -10,7 +10,6 @@ use crossing::cross;
 use generating::field;
 use layout::Size;
 use merging::merge;
-use places::Placed;
 use sheet_in_hand::allowed;
 use sheets::answer::{Answer, Refusal};
 use splitting::split;
@@ -65,19 +64,17 @@ pub fn proceed(
     ensures left { Left (proceed_in list.now number (in_hand number size table.old levels.old)) table.old levels.old result table.new levels.new }
     ensures zeros { Zeros scratch.new }
 {
-    match step_at(list, number) {
-        Placed::Step { kind, operands_at } => {
-            step(
-                list,
-                kind,
-                operands_at,
-                number,
-                size,
-                table,
-                levels,
-                scratch,
-            )
-        }
-        Placed::Missing => Answer::Refused(Refusal::StepNotAllowed { step: number }),
-    }
+    let Some(found) = step_at(list, number) else {
+        return Answer::Refused(Refusal::StepNotAllowed { step: number });
+    };
+    step(
+        list,
+        found.kind,
+        found.operands_at,
+        number,
+        size,
+        table,
+        levels,
+        scratch,
+    )
 }

@@ -7,10 +7,7 @@ ghost use Rattle.std.specs.Prelude.{◌≡◌, ◌+◌, ◌*◌, ◌≤◌, min,
 pub fn least(a: usize, b: usize) -> usize
     ensures { result ≡ min a b }
 {
-    if a < b {
-        return a;
-    }
-    b
+    a.min(b)
 }
 
 // The number at a place of a list, or 0 after its end.
@@ -18,10 +15,7 @@ pub fn number_at(list: &[u16], at: usize) -> usize
     ensures value { result ≡ get_or list.now at 0 }
     ensures upper_bound { result ≤ 65535 }
 {
-    if at < list.len() {
-        return list[at] as usize;
-    }
-    0
+    list.get(at).copied().unwrap_or(0) as usize
 }
 
 // The number of 32 bits at a place of a list, which has its upper half and then its lower one.

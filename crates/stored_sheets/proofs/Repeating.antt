@@ -26,11 +26,8 @@ pub record Repeating (list : List ℕ) (start count : ℕ) (held bytes : List �
   pub filled : (i : ℕ) → i < k → get_or bytes i 0 ≡ repeated list start count held i
 
 module _ (list : List ℕ) (start count : ℕ) (held : List ℕ) where
-  pub repeating_none : Repeating list start count held held 0
-  repeating_none = record { size = refl; filled = λ i h. absurd (omega (arith, h)) }
-
   -- one more byte, which is a number of the list modulo 256
-  pub repeating_more : {bytes : List ℕ} {k : ℕ} (number : ℕ) → Repeating list start count held bytes k → k < length bytes → (count ≡ 0 → ⊥)
+  pub repeating_more : {bytes : List ℕ} {k : ℕ} (number : ℕ) → Repeating list start count held bytes k → k < length held → (count ≡ 0 → ⊥)
       → number ≡ get_or list (start + k % count) 0
       → Repeating list start count held (set bytes k (number % 256)) (k + 1)
   repeating_more {bytes} {k} number on room some e =
@@ -38,5 +35,5 @@ module _ (list : List ℕ) (start count : ℕ) (held : List ℕ) where
         size = length-set bytes k (number % 256) ∙ on.size;
         filled = below_more (λ i. get_or (set bytes k (number % 256)) i 0 ≡ repeated list start count held i) k
             (λ i h. get_or-set_other bytes k i (number % 256) 0 (λ same. omega (arith, same, h)) ∙ on.filled i h)
-            (get_or-set_same bytes k (number % 256) 0 room ∙ rw e (repeated_some list start count held k some));
+            (get_or-set_same bytes k (number % 256) 0 (omega (arith, on.size)) ∙ rw e (repeated_some list start count held k some));
       }

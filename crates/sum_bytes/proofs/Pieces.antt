@@ -1,58 +1,30 @@
--- Loops that go through a list from its front: a test of every element, and pieces that are put one after the other.
+-- A test of every element of a list, and loops that go through a list from its front and put pieces one after the other.
 -- Assumes nothing.
 use mathlib.Core.Path.{◌≡◌, refl, sym, ◌∙◌, ap, ap₂}
-use mathlib.Core.Bool.{Bool, true, false, ◌&&◌, and_assoc, and-false}
+use mathlib.Core.Bool.{Bool, ◌&&◌}
 use mathlib.Core.List.{List, [], ◌∷◌, ◌++◌, flat_map, append-nil}
 use Prim.Native.Nat.{ℕ, suc, ◌+◌, ◌≤◌, ◌<◌, zero-le}
 use native.Mathlib.Nat.{zero-add}
 use native.Mathlib.Numerals.{add-one}
 use native.Mathlib.Omega.{arith}
-use borrow.Author.Tests.{lt-ltb, le-ltb}
-use lib.Dec.{ltb}
 use lib.ListN.{length, get_or, take, drop, length-append}
 use lib.Seq.{take-suc, take_all, length-take-le, split_at}
+use Rattle.std.proofs.lemmas.List.Sums.{sum_by-cons}
 use Rattle.finite.specs.Lists.{from}
 use Rattle.finite.proofs.Lists.{length_from}
 use Rattle.buffers.specs.Put.{Put}
 use Rattle.buffers.proofs.Puts.{put_none, put_join, put_next, put_length}
+use Rattle.std.specs.List.{list_all, sum_by}
 use Rattle.step_tables.specs.Lists.{all_of}
 use Rattle.layout.proofs.Bytes.{flat_map_append, get_d_from}
 
 -- ---- every element passes a test
 
 module _ {A : Type 0} (test : A → Bool) where
-  pub all_of_append : (xs ys : List A) → all_of test (xs ++ ys) ≡ (all_of test xs && all_of test ys)
-  all_of_append [] ys = refl
-  all_of_append (x ∷ xs) ys = ap (λ b. test x && b) (all_of_append xs ys) ∙ sym (and_assoc (test x) (all_of test xs) (all_of test ys))
-
--- The first n numbers of a list pass.
-pub record PassSoFar (test : ℕ → Bool) (xs : List ℕ) (n : ℕ) : Type 0 where
-  pub passed : all_of test (take n xs) ≡ true
-
-pub passing_none : (test : ℕ → Bool) (xs : List ℕ) → PassSoFar test xs 0
-passing_none test xs = record { passed = refl }
-
-module _ {test : ℕ → Bool} {xs : List ℕ} {n : ℕ} (w : PassSoFar test xs n) where
-  pub passing_all : length xs ≤ n → true ≡ all_of test xs
-  passing_all h = sym (rw (take_all n xs h) at w.passed)
-
-  module _ (h : n < length xs) where
-    pub passing_more : test (get_or xs n 0) ≡ true → PassSoFar test xs (n + 1)
-    passing_more next = record { passed = rw (add-one, take-suc xs n 0 h, all_of_append test (take n xs) (get_or xs n 0 ∷ []), w.passed, next) }
-
-    pub passing_fails : test (get_or xs n 0) ≡ false → false ≡ all_of test xs
-    passing_fails e =
-        sym
-        (ap (all_of test) (split_at xs n 0 h)
-        ∙ all_of_append test (take n xs) (get_or xs n 0 ∷ drop (suc n) xs)
-        ∙ rw e (and-false (all_of test (take n xs))))
-
--- the test that a number is not 0
-pub positive_true : {n : ℕ} → (n ≡ 0 → ⊥) → ltb 0 n ≡ true
-positive_true {n} h = lt-ltb 0 n (omega arith)
-
-pub positive_false : {n : ℕ} → n ≡ 0 → ltb 0 n ≡ false
-positive_false {n} e = le-ltb 0 n (omega arith)
+  -- std's word for what `all` answers recurses as `all_of` does
+  pub all_of_is : (xs : List A) → list_all test xs ≡ all_of test xs
+  all_of_is [] = refl
+  all_of_is (x ∷ xs) = ap (λ b. test x && b) (all_of_is xs)
 
 -- ---- pieces put one after the other
 
@@ -98,24 +70,11 @@ module _ {f : ℕ → List ℕ} {xs a : List ℕ} {i n : ℕ} {b : List ℕ} {j 
     pub pieces_next : {c : List ℕ} {k : ℕ} → Put b j (f (get_or xs n 0)) c k → Pieces f xs a i (n + 1) c k
     pieces_next q = record { among = omega arith; put = rw (more f xs n h) (put_join w.put q) }
 
--- How long the pieces of the first n numbers are together.
-pub record Counted (f : ℕ → List ℕ) (xs : List ℕ) (n total : ℕ) : Type 0 where
-  pub counted : total ≡ length (flat_map f (take n xs))
-
-pub counted_none : (f : ℕ → List ℕ) (xs : List ℕ) → Counted f xs 0 0
+-- How long the pieces of a list are together.
+pub pieces_length : (f : ℕ → List ℕ) (size : ℕ → ℕ) → ((x : ℕ) → size x ≡ length (f x)) → (xs : List ℕ) → sum_by size xs ≡ length (flat_map f xs)
 unfolding flat_map
-counted_none f xs = record { counted = refl }
-
-module _ {f : ℕ → List ℕ} {xs : List ℕ} {n total : ℕ} (w : Counted f xs n total) where
-  pub counted_all : length xs ≤ n → total ≡ length (flat_map f xs)
-  counted_all h = w.counted ∙ ap (λ (ys : List ℕ). length (flat_map f ys)) (take_all n xs h)
-
-  pub counted_next : {size : ℕ} → n < length xs → size ≡ length (f (get_or xs n 0)) → Counted f xs (n + 1) (total + size)
-  counted_next h e =
-      record {
-        counted =
-            ap₂ ◌+◌ w.counted e ∙ sym (ap length (more f xs n h) ∙ length-append (flat_map f (take n xs)) (f (get_or xs n 0)));
-      }
+pieces_length f size e [] = refl
+pieces_length f size e (x ∷ xs) = sum_by-cons size x xs ∙ ap₂ ◌+◌ (e x) (pieces_length f size e xs) ∙ sym (length-append (f x) (flat_map f xs))
 
 -- ---- the numbers below m, each with its piece
 

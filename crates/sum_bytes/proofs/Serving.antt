@@ -1,5 +1,7 @@
 -- The matrices of SUM are entered one by one into the arrays that hold, for each p, where the matrix that serves p stands.
 -- Assumes nothing.
+use Rattle.std.specs.Prelude
+use Rattle.std.specs.Prelude.{Some, None}
 use mathlib.Core.Path.{◌≡◌, refl, sym, ◌∙◌, ap, subst}
 use mathlib.Core.Logic.{◌↔◌, by_cases, ⊎_elim}
 use mathlib.Core.Bool.{Bool, true, false, cond, ◌||◌}
@@ -21,7 +23,7 @@ use Rattle.galois.specs.Arithmetic.{member}
 use Rattle.counting.specs.Matrix.{Matrix, matrix_of}
 use Rattle.order.specs.Grammar.{read_order}
 use Rattle.order.specs.declared.Located.{Located}
-use Rattle.order.specs.declared.Located.TheVariants.{Table as TableAt, Matrix as MatrixAt, Generator as GeneratorAt, Missing as NothingAt}
+use Rattle.order.specs.declared.Located.TheVariants.{Table as TableAt, Matrix as MatrixAt, Generator as GeneratorAt}
 use Rattle.places.specs.Places.{ingredient_at}
 use Rattle.step_tables.specs.Lists.{Distinct, all_of, all_different}
 use Rattle.step_tables.specs.Sum.{modulus_of, serving}
@@ -37,19 +39,19 @@ use Rattle.layout.proofs.Sheets.{zero_at}
 -- ---- a matrix that is found stands in the list
 
 module _ (list : List ℕ) (readable : Readable list) where
-  numbered : (d : ℕ) {rows columns p start : ℕ} → ingredient_at (read_order list) d ≡ MatrixAt rows columns p start → 1 ≤ d
+  numbered : (d : ℕ) {rows columns p start : ℕ} → ingredient_at (read_order list) d ≡ Some (MatrixAt rows columns p start) → 1 ≤ d
   unfolding ingredient_at
   numbered zero e = let missing = rw readable.reads at e in absurd (let z : ◌≡◌ {A = ℕ} 0 1 = cc in omega arith)
   numbered (suc k) e = omega arith
 
-  found_stands : (d : ℕ) (L : Located) → ingredient_at (read_order list) d ≡ L → 0 < (matrix_place L).rows
+  found_stands : (d : ℕ) (L : Prelude.Option Located) → ingredient_at (read_order list) d ≡ L → 0 < (matrix_place L).rows
       → MatrixStands list (matrix_place L).rows (matrix_place L).columns (matrix_place L).p (matrix_place L).start
   unfolding matrix_place
-  found_stands d (TableAt rows columns levels_at entries_at) e h = absurd (omega arith)
-  found_stands d (MatrixAt rows columns p start) e h =
+  found_stands d (Some (TableAt rows columns levels_at entries_at)) e h = absurd (omega arith)
+  found_stands d (Some (MatrixAt rows columns p start)) e h =
       matrix_stands list readable.order readable.reads readable.in_range d (numbered d e) e
-  found_stands d (GeneratorAt t n s widths_at width entries_at) e h = absurd (omega arith)
-  found_stands d NothingAt e h = absurd (omega arith)
+  found_stands d (Some (GeneratorAt t n s widths_at width entries_at)) e h = absurd (omega arith)
+  found_stands d None e h = absurd (omega arith)
 
   pub place_stands : (d : ℕ) (m : MatrixPlace) → m ≡ matrix_place (ingredient_at (read_order list) d) → 0 < m.rows
       → MatrixStands list m.rows m.columns m.p m.start

@@ -1,10 +1,12 @@
 -- Question 5 of SUM: where its operands stand, and what the numbers among them name. CROSS begins with the same operands (02, K6).
 -- Assumes nothing.
+use Rattle.std.specs.Prelude
+use Rattle.std.specs.Prelude.{Some, None}
 use mathlib.Core.Path.{◌≡◌, refl, sym, ◌∙◌, ap, subst}
 use mathlib.Core.Logic.{◌⊎◌, inl, inr, ⊎_elim}
 use mathlib.Core.Bool.{Bool, true, false, cond, ◌&&◌, ◌||◌, not, or-true}
 use mathlib.Core.List.{List, [], ◌∷◌, ◌++◌}
-use mathlib.Core.Option.{Option, none, some, map, bind}
+use mathlib.Core.Option.{none, some, map, bind}
 use Prim.Native.Nat.{ℕ, zero, suc, ◌+◌, ◌≤◌, ◌<◌}
 use native.Mathlib.Nat.{le_of_lt}
 use native.Mathlib.Omega.{arith}
@@ -16,7 +18,7 @@ use Rattle.counting.specs.Table.{Table, columns}
 use Rattle.order.specs.Order.{SUM, All, IngredientNumber, SumLimits}
 use Rattle.order.specs.Grammar.{read_order}
 use Rattle.order.specs.declared.Located.{Located}
-use Rattle.order.specs.declared.Located.TheVariants.{Table as TableAt, Matrix as MatrixAt, Generator as GeneratorAt, Missing as NothingAt}
+use Rattle.order.specs.declared.Located.TheVariants.{Table as TableAt, Matrix as MatrixAt, Generator as GeneratorAt}
 use Rattle.order.proofs.Segment.{Segment, part_left, part_right, number_is, segment_fits}
 use Rattle.places.specs.Places.{ingredient_at, matrices_from, adjoined_from, crossed_from}
 use Rattle.step_tables.specs.Lists.{all_of}
@@ -25,6 +27,7 @@ use Rattle.sheets.specs.Steps.{Outcome, sum, provided, operation, operate, later
 use Rattle.sheets.specs.declared.answer.Refusal.TheVariants.{StepNotAllowed}
 use Rattle.sheets.specs.declared.answer.Answer.{Answer}
 use Rattle.sheets.specs.declared.answer.Answer.TheVariants.{Refused}
+use Rattle.std.specs.Prelude.{Some, None}
 use Rattle.ingredients.specs.Named.{own_table, named_table, table_in, Legible, some_table, some_matrix}
 use Rattle.ingredients.specs.declared.named.NamedTable.{NamedTable}
 use Rattle.ingredients.specs.declared.named.NamedTable.TheVariants.{Own, House, Missing}
@@ -33,7 +36,6 @@ use Rattle.ingredients.proofs.Standing.{matrix_stands}
 use Rattle.ingredients.proofs.NamedLaws.{table_named_lem, matrix_named_lem, named_legible, named_limits}
 use Rattle.layout.specs.Step.{Readable, Stands, later_in, Left}
 use Rattle.sum_bytes.specs.Summing.{matrix_place, placed_matrix, matrix_at, matrices_at, is_missing, SumOperands, summands_of}
-use Rattle.sum_bytes.specs.declared.Summands.TheVariants.{Missing as Unnamed, Named}
 use Rattle.layout.proofs.Operands.{operands_stand, later_in_lem, number_from_one}
 use Rattle.sum_bytes.proofs.Serving.{untrue}
 
@@ -75,15 +77,15 @@ numbers_many {list} {at} stand = rw (part_length list (at + 1) (get_or list at 0
 -- ---- what the numbers name
 
 module _ {list : List ℕ} (readable : Readable list) where
-  matrix_found : (d : ℕ) → 1 ≤ d → (L : Located) → ingredient_at (read_order list) d ≡ L
+  matrix_found : (d : ℕ) → 1 ≤ d → (L : Prelude.Option Located) → ingredient_at (read_order list) d ≡ L
       → some_matrix list L ≡ cond (ltb 0 (placed_matrix list (matrix_place L)).rows) (some (placed_matrix list (matrix_place L))) none
   unfolding some_matrix matrix_place placed_matrix matrix_of
-  matrix_found d h (TableAt rows k levels_at entries_at) e = refl
-  matrix_found d h (MatrixAt rows k p start) e =
+  matrix_found d h (Some (TableAt rows k levels_at entries_at)) e = refl
+  matrix_found d h (Some (MatrixAt rows k p start)) e =
       let stands = matrix_stands list readable.order readable.reads readable.in_range d h e in
       rw (lt-ltb 0 rows stands.rows_limits.0)
-  matrix_found d h (GeneratorAt t n s widths_at width entries_at) e = refl
-  matrix_found d h NothingAt e = refl
+  matrix_found d h (Some (GeneratorAt t n s widths_at width entries_at)) e = refl
+  matrix_found d h None e = refl
 
   one_named : (d : ℕ) → 1 ≤ d → matrix_named readable.order d ≡ cond (ltb 0 (matrix_at list d).rows) (some (matrix_at list d)) none
   unfolding matrix_at
@@ -164,17 +166,17 @@ first_named list (d ∷ ds) h e = ltb-true 0 (matrix_at list d).rows (left_true 
 
 -- from the single answers
 module _ (list : List ℕ) (at : ℕ) where
-  pub matrix_missing : false ≡ all_of (λ d. ltb 0 (matrix_at list d).rows) (matrices_from list at) → Unnamed ≡ summands_of list at
+  pub matrix_missing : false ≡ all_of (λ d. ltb 0 (matrix_at list d).rows) (matrices_from list at) → None ≡ summands_of list at
   unfolding summands_of
   matrix_missing e = rw (← e) refl
 
   module _ (e : true ≡ all_of (λ d. ltb 0 (matrix_at list d).rows) (matrices_from list at)) where
-    pub table_missing : (adjoined_from list at ≡ 0 → ⊥) → is_missing (named_table (read_order list) (adjoined_from list at)) ≡ true → Unnamed ≡ summands_of list at
+    pub table_missing : (adjoined_from list at ≡ 0 → ⊥) → is_missing (named_table (read_order list) (adjoined_from list at)) ≡ true → None ≡ summands_of list at
     unfolding summands_of
     table_missing given missing = rw (← e, ne_eqb (adjoined_from list at) 0 given, missing) refl
 
     pub all_there : (adjoined_from list at ≡ 0) ⊎ (is_missing (named_table (read_order list) (adjoined_from list at)) ≡ false)
-        → Named (named_table (read_order list) (adjoined_from list at)) ≡ summands_of list at
+        → Some (named_table (read_order list) (adjoined_from list at)) ≡ summands_of list at
     unfolding summands_of
     all_there either =
         let k = adjoined_from list at in
@@ -221,12 +223,12 @@ module _ {list : List ℕ} (readable : Readable list) {at : ℕ} (operands : Sum
   each_named : (a : Bool) → all_of (λ d. ltb 0 (matrix_at list d).rows) ds ≡ a → matrices_named readable.order ds ≡ cond a (some (matrices_at list ds)) none
   each_named a e = all_named readable ds operands.numbered ∙ ap (λ b. cond b (some (matrices_at list ds)) none) e
 
-  pub summands_named : {t : NamedTable} → Named t ≡ summands_of list at → AllNamed readable at t
+  pub summands_named : {t : NamedTable} → Some t ≡ summands_of list at → AllNamed readable at t
   unfolding summands_of
   summands_named {t} e = tested _ _ refl refl e
     where
       tested : (a b : Bool) → all_of (λ d. ltb 0 (matrix_at list d).rows) ds ≡ a → (eqb k 0 || not (is_missing table)) ≡ b
-          → Named t ≡ cond (a && b) (Named table) Unnamed → AllNamed readable at t
+          → Some t ≡ cond (a && b) (Some table) None → AllNamed readable at t
       tested true true each last f =
           let same : table ≡ t = cc in
           let known = subst (λ u. Legible list u × (columns (table_in list u) ≤ 128)) same (named_known readable k) in
@@ -243,7 +245,7 @@ module _ {list : List ℕ} (readable : Readable list) {at : ℕ} (operands : Sum
       tested false b each last f = absurd (let z : ◌≡◌ {A = ℕ} 0 1 = cc in omega arith)
 
   -- a d names no matrix, or k no table
-  pub summands_missing : Unnamed ≡ summands_of list at
+  pub summands_missing : None ≡ summands_of list at
       → (matrices_named readable.order (matrices_from list at) ≡ none)
       ⊎ ((matrices_named readable.order (matrices_from list at) ≡ some (matrices_at list (matrices_from list at)))
       × (adjoined_named readable.order (adjoined_from list at) ≡ none))
@@ -251,7 +253,7 @@ module _ {list : List ℕ} (readable : Readable list) {at : ℕ} (operands : Sum
   summands_missing e = tested _ _ refl refl e
     where
       tested : (a b : Bool) → all_of (λ d. ltb 0 (matrix_at list d).rows) ds ≡ a → (eqb k 0 || not (is_missing table)) ≡ b
-          → Unnamed ≡ cond (a && b) (Named table) Unnamed
+          → None ≡ cond (a && b) (Some table) None
           → (matrices_named readable.order ds ≡ none)
           ⊎ ((matrices_named readable.order ds ≡ some (matrices_at list ds)) × (adjoined_named readable.order k ≡ none))
       tested true true each last f = absurd (let z : ◌≡◌ {A = ℕ} 0 1 = cc in omega arith)
@@ -269,7 +271,7 @@ module _ {list : List ℕ} (readable : Readable list) (at n : ℕ) (S : Table) (
   later_is = later_in_lem readable 3 at n S
 
   -- a number does not name what it should
-  pub left_unnamed : SumOperands list at → Unnamed ≡ summands_of list at → Left (later_in list n S 3 at) table levels (Refused (StepNotAllowed n)) table levels
+  pub left_unnamed : SumOperands list at → None ≡ summands_of list at → Left (later_in list n S 3 at) table levels (Refused (StepNotAllowed n)) table levels
   unfolding later operation provided bind Left
   left_unnamed operands e =
       ⊎_elim

@@ -1,16 +1,14 @@
 -- Laws of SUM on bytes: what the arrays tell of the matrices that serve a level count.
 -- Assumes nothing.
 use mathlib.Core.Path.{◌≡◌, ◌∙◌, ap}
-use mathlib.Core.List.{List, [], ◌∷◌}
+use mathlib.Core.List.{List}
 use Prim.Native.Nat.{ℕ, ◌+◌, ◌*◌, ◌-◌, ◌/◌, ◌%◌, ◌≤◌, ◌<◌}
 use native.Mathlib.Nat.{mod-lt, div-lt_iff_lt-mul, le_refl}
 use native.Mathlib.Omega.{arith}
 use lib.Arith.{digits_lt}
-use lib.ListN.{length, get_or, take, drop, length-append, length-map, replicate, replicate-append-replicate}
+use lib.ListN.{length, get_or, take, drop, length-append, length-map}
 use Rattle.finite.specs.Lists.{AllBelow}
 use Rattle.finite.proofs.Fits.{run_end}
-use Rattle.buffers.specs.Put.{Put}
-use Rattle.buffers.proofs.Puts.{put_join}
 use Rattle.counting.specs.Table.{Table, columns, table_of, InRange}
 use Rattle.step_tables.specs.Sum.{level_sum}
 use Rattle.step_tables.proofs.Sum.{factor_positive}
@@ -18,11 +16,6 @@ use Rattle.ingredients.proofs.Parts.{part_length, part_at}
 use Rattle.layout.specs.Bytes.{run_of}
 use Rattle.sum_bytes.specs.Summing.{EntriesStand, served_row, summed_cells, summed_run, RowStands, RunStands, SheetStands, built_run}
 use Rattle.layout.proofs.Bytes.{run_length}
-
--- ---- one byte again
-
-pub put_again : {a b c : List ℕ} {i j k : ℕ} (n byte : ℕ) → Put a i (replicate n byte) b j → Put b j (byte ∷ []) c k → Put a i (replicate (n + 1) byte) c k
-put_again n byte p q = rw (replicate-append-replicate {A = ℕ} n 1 byte) at (put_join p q)
 
 -- ---- a row of the matrix that serves s
 

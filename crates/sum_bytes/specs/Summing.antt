@@ -1,7 +1,8 @@
 -- What SUM reads where it stands in the list, and the bytes that it writes: document 01, "Steps by kind", step 3, and questions 5 and 6.
 -- Two arrays hold, for each p, the place where the entries of the matrix that serves p start in the list, and how many columns it has: 0 where
 -- no matrix serves p.
-use Rattle.std.specs.Prelude.{◌≡◌, Bool, true, false, cond, ◌&&◌, ◌||◌, not, ℕ, zero, suc, ◌+◌, ◌*◌, ◌/◌, ◌%◌, ◌≤◌, ◌<◌, eqb, ltb, length, get_or, take, drop, replicate}
+use Rattle.std.specs.Prelude.{◌≡◌, Bool, true, false, cond, ◌&&◌, ◌||◌, not, ℕ, zero, suc, ◌+◌, ◌*◌, ◌/◌, ◌%◌, ◌≤◌, ◌<◌, eqb, ltb, length, get_or, take, drop, replicate, Some, None}
+use Rattle.std.specs.Prelude as Prelude
 use mathlib.Core.List.{List, ◌++◌, map, flat_map}
 use Rattle.std.proofs.Math.Option.{Option, none, some}
 use Rattle.finite.specs.Lists.{from, AllBelow}
@@ -11,7 +12,7 @@ use Rattle.counting.specs.Table.{Table, columns, table_of, InRange}
 use Rattle.order.specs.Order.{All}
 use Rattle.order.specs.Grammar.{read_order}
 use Rattle.order.specs.declared.Located.{Located}
-use Rattle.order.specs.declared.Located.TheVariants.{Table as TableAt, Matrix as MatrixAt, Generator as GeneratorAt, Missing as NothingAt}
+use Rattle.order.specs.declared.Located.TheVariants.{Table as TableAt, Matrix as MatrixAt, Generator as GeneratorAt}
 use Rattle.places.specs.Places.{ingredient_at, matrices_from, adjoined_from}
 use Rattle.step_tables.specs.Lists.{all_of, all_different}
 use Rattle.step_tables.specs.Sum.{level_sum, modulus_of, serving}
@@ -21,15 +22,13 @@ use Rattle.ingredients.specs.declared.named.NamedTable.TheVariants.{Own, House, 
 use Rattle.layout.specs.Bytes.{run_of}
 use Rattle.layout.specs.declared.Size.{Size}
 use Rattle.sum_bytes.specs.declared.MatrixPlace.{MatrixPlace}
-use Rattle.sum_bytes.specs.declared.Summands.{Summands}
-use Rattle.sum_bytes.specs.declared.Summands.TheVariants.{Missing as Unnamed, Named}
 
 -- the matrix that a look-up found, by its places in the list; any other ingredient is none
-unfoldable pub matrix_place : Located → MatrixPlace
-matrix_place (TableAt rows columns levels_at entries_at) = record { rows = 0; columns = 0; p = 0; start = 0 }
-matrix_place (MatrixAt rows columns p entries_at) = record { rows = rows; columns = columns; p = p; start = entries_at }
-matrix_place (GeneratorAt t n s widths_at width entries_at) = record { rows = 0; columns = 0; p = 0; start = 0 }
-matrix_place NothingAt = record { rows = 0; columns = 0; p = 0; start = 0 }
+unfoldable pub matrix_place : Prelude.Option Located → MatrixPlace
+matrix_place (Some (TableAt rows columns levels_at entries_at)) = record { rows = 0; columns = 0; p = 0; start = 0 }
+matrix_place (Some (MatrixAt rows columns p entries_at)) = record { rows = rows; columns = columns; p = p; start = entries_at }
+matrix_place (Some (GeneratorAt t n s widths_at width entries_at)) = record { rows = 0; columns = 0; p = 0; start = 0 }
+matrix_place None = record { rows = 0; columns = 0; p = 0; start = 0 }
 
 -- the matrix that stands there
 unfoldable pub placed_matrix : List ℕ → MatrixPlace → Matrix
@@ -54,14 +53,14 @@ pub record SumOperands (list : List ℕ) (at : ℕ) : Type 0 where
   pub within : at + 1 + get_or list at 0 < length list
   pub numbered : All (λ d. 1 ≤ d) (matrices_from list at)
 
--- question 5 of these operands: each d names a matrix, and k a table or, if it is 0, none
-unfoldable pub summands_of : List ℕ → ℕ → Summands
+-- question 5 of these operands: each d names a matrix, and k a table or, if it is 0, none; what k names then
+unfoldable pub summands_of : List ℕ → ℕ → Prelude.Option NamedTable
 summands_of list at =
     let k = named_table (read_order list) (adjoined_from list at) in
     cond
     (all_of (λ d. ltb 0 (matrix_at list d).rows) (matrices_from list at) && (eqb (adjoined_from list at) 0 || not (is_missing k)))
-    (Named k)
-    Unnamed
+    (Some k)
+    None
 
 -- question 6, of the matrices alone: equal rows and different p
 unfoldable pub fit_together : ℕ → List Matrix → Bool

@@ -2,8 +2,6 @@
 // definition of the step (proofs/).
 #![tactic(auto)]
 
-use ingredients::named::NamedTable;
-
 // A matrix of the list: its sizes, and the place where its entries start. One with no rows stands for none.
 #[derive(Clone, Copy)]
 pub struct MatrixPlace {
@@ -11,11 +9,4 @@ pub struct MatrixPlace {
     pub columns: usize,
     pub p: usize,
     pub start: usize,
-}
-
-// What the operands of SUM name, with which those of CROSS begin: the table k, or none, where each number names what it should.
-#[derive(Clone, Copy)]
-pub enum Summands {
-    Missing,
-    Named { k: NamedTable },
 }

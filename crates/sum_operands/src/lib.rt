@@ -11,7 +11,7 @@ ghost use Rattle.sum_bytes.specs.Summing.{matrix_place, matrix_at, is_missing, S
 use ingredient_places::ingredient_at;
 use ingredients::named::{NamedTable, table_named};
 use order::Located;
-use sum_bytes::{MatrixPlace, Summands};
+use sum_bytes::MatrixPlace;
 
 // The matrix that a number names.
 pub fn matrix_named(list: &[u16], d: usize) -> MatrixPlace
@@ -24,32 +24,20 @@ pub fn matrix_named(list: &[u16], d: usize) -> MatrixPlace
         start: 0,
     };
     match ingredient_at(list, d) {
-        Located::Table {
-            rows: _,
-            columns: _,
-            levels_at: _,
-            entries_at: _,
-        } => none,
-        Located::Matrix {
-            rows,
-            columns,
-            p,
-            entries_at: start,
-        } => MatrixPlace {
+        Some(
+            Located::Matrix {
+                rows,
+                columns,
+                p,
+                entries_at: start,
+            },
+        ) => MatrixPlace {
             rows,
             columns,
             p,
             start,
         },
-        Located::Generator {
-            t: _,
-            n: _,
-            s: _,
-            widths_at: _,
-            width: _,
-            entries_at: _,
-        } => none,
-        Located::Missing => none,
+        _ => none,
     }
 }
 
@@ -57,15 +45,7 @@ pub fn matrix_named(list: &[u16], d: usize) -> MatrixPlace
 pub fn all_name_matrices(list: &[u16], ds: &[u16]) -> bool
     ensures { result ≡ all_of (λ d. ltb 0 (matrix_at list.now d).rows) ds.now }
 {
-    let mut i = 0;
-    while i < ds.len() {
-        let named = matrix_named(list, ds[i] as usize);
-        if named.rows == 0 {
-            return false;
-        }
-        i += 1;
-    }
-    true
+    ds.iter().all(|d| matrix_named(list, *d as usize).rows != 0)
 }
 
 // Whether a number named no table.
@@ -85,19 +65,20 @@ pub fn is_missing(table: NamedTable) -> bool
 }
 
 // Question 5, of the operands from place `at` on: does each d name a matrix, and k a table? Only k may be 0, for none.
-pub fn summands(list: &[u16], at: usize) -> Summands
+// The answer is what k names, or `None` where a number does not name what it should.
+pub fn summands(list: &[u16], at: usize) -> Option<NamedTable>
     requires { SumOperands list.now at }
     ensures { result ≡ summands_of list.now at }
 {
     let start = at + 1;
     let end = start + list[at] as usize;
     if !all_name_matrices(list, &list[start..end]) {
-        return Summands::Missing;
+        return None;
     }
     let last = list[end] as usize;
     let k = table_named(list, last);
     if last != 0 && is_missing(k) {
-        return Summands::Missing;
+        return None;
     }
-    Summands::Named { k }
+    Some(k)
 }

@@ -25,9 +25,8 @@ fn serve(list: &[u16], ds: &[u16], rows: usize, entries: &mut [u16], widths: &mu
     ensures serves { result ≡ true
         → Serves list.now (matrices_at list.now ds.now) rows entries.new widths.new }
 {
-    let mut i = 0;
-    while i < ds.len() {
-        let named = matrix_named(list, ds[i] as usize);
+    for d in ds {
+        let named = matrix_named(list, *d as usize);
         if named.rows != rows {
             return false;
         }
@@ -37,7 +36,6 @@ fn serve(list: &[u16], ds: &[u16], rows: usize, entries: &mut [u16], widths: &mu
         }
         entries[p] = named.start as u16;
         widths[p] = named.columns as u8;
-        i += 1;
     }
     true
 }
@@ -47,14 +45,7 @@ fn all_served(levels: &[u8], widths: &[u8]) -> bool
     requires { AllBelow (length widths.now) levels.now }
     ensures { result ≡ all_of (λ s. ltb 0 (get_or widths.now s 0)) levels.now }
 {
-    let mut j = 0;
-    while j < levels.len() {
-        if widths[levels[j] as usize] == 0 {
-            return false;
-        }
-        j += 1;
-    }
-    true
+    levels.iter().all(|s| widths[*s as usize] != 0)
 }
 
 // Question 6, of k alone: whether it has a run for each row of the matrices, or there is none.

@@ -14,12 +14,10 @@ pub fn field_tables(widths: &[u8]) -> [u8; 810]
     ensures { FieldTables widths.now 10 result }
 {
     let mut sums = [0u8; 810];
-    let mut s = 4;
-    while s < 10 {
+    for s in 4..10 {
         if over_field(s) && 0 < widths[s as usize] {
             put_field_sums(&mut sums, s);
         }
-        s += 1;
     }
     sums
 }
@@ -33,9 +31,7 @@ fn put_field_sums(sums: &mut [u8], s: u8)
 {
     let size = s as usize;
     let start = size * 81;
-    let mut q = 0;
-    while q < size * size {
+    for q in 0..size * size {
         sums[start + q] = level_sum(s, (q / size) as u8, (q % size) as u16);
-        q += 1;
     }
 }

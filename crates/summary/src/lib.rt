@@ -25,10 +25,8 @@ fn print_answers(rt: &impl Print, number: usize, many: usize) -> io::Result<()> 
 
 pub fn print_counts(rt: &impl Print, counts: &[usize], tally: Tally) -> io::Result<()> {
     print_line(rt, b"records", tally.records)?;
-    let mut number = 0;
-    while number < counts.len() {
-        print_answers(rt, number, counts[number])?;
-        number += 1;
+    for (number, many) in counts.iter().enumerate() {
+        print_answers(rt, number, *many)?;
     }
     print_line(rt, b"differing", tally.differing)
 }

@@ -34,10 +34,8 @@ fn put_looked_up(buf: &mut [u8], at: usize, sums: &[u8], row: &[u16]) -> usize
     ensures { Put buf.old at (map (λ b. get_or sums.now b 0) row.now) buf.new result }
 {
     let mut place = at;
-    let mut c = 0;
-    while c < row.len() {
-        place = put_byte(buf, place, sums[row[c] as usize]);
-        c += 1;
+    for b in row {
+        place = put_byte(buf, place, sums[*b as usize]);
     }
     place
 }
@@ -49,10 +47,8 @@ fn put_modulo_sums(buf: &mut [u8], at: usize, p: u8, level: u8, row: &[u16]) -> 
     ensures { Put buf.old at (map (λ b. (level + b) % p) row.now) buf.new result }
 {
     let mut place = at;
-    let mut c = 0;
-    while c < row.len() {
-        place = put_byte(buf, place, modulo_sum(p, level, row[c]));
-        c += 1;
+    for b in row {
+        place = put_byte(buf, place, modulo_sum(p, level, *b));
     }
     place
 }
@@ -76,14 +72,12 @@ pub fn put_summed_run(
     ensures { Put buf.old at (summed_run list.now entries.now widths.now row levels.now cells.now) buf.new result }
 {
     let mut place = at;
-    let mut j = 0;
-    while j < levels.len() {
-        let s = levels[j] as usize;
+    for (j, level) in levels.iter().enumerate() {
+        let s = *level as usize;
         let width = widths[s] as usize;
         let start = entries[s] as usize + row * width;
         let end = start + width;
-        place = put_sums(buf, place, levels[j], cells[j], &list[start..end], sums);
-        j += 1;
+        place = put_sums(buf, place, *level, cells[j], &list[start..end], sums);
     }
     place
 }

@@ -27,13 +27,7 @@ pub fn summed_columns(levels: &[u8], widths: &[u8]) -> usize
     ensures value { result ≡ length (summed_levels widths.now levels.now) }
     ensures upper_bound { result ≤ 255 * length levels.now }
 {
-    let mut total = 0;
-    let mut j = 0;
-    while j < levels.len() {
-        total += widths[levels[j] as usize] as usize;
-        j += 1;
-    }
-    total
+    levels.iter().map(|s| widths[*s as usize] as usize).sum()
 }
 
 // The runs of the next sheet: each sheet run with each matrix row, and the adjoined table's run of that row.
@@ -58,8 +52,7 @@ fn put_runs(
 {
     let total = runs * rows;
     let mut place = 0;
-    let mut r = 0;
-    while r < total {
+    for r in 0..total {
         let row = r % rows;
         let start = r / rows * levels.len();
         let end = start + levels.len();
@@ -75,7 +68,6 @@ fn put_runs(
             sums,
         );
         place = put_run(list, k, row, buf, place);
-        r += 1;
     }
     place
 }
@@ -85,13 +77,9 @@ fn put_repeated(buf: &mut [u8], at: usize, byte: u8, times: usize) -> usize
     requires { at + times ≤ length buf.old }
     ensures { Put buf.old at (replicate times byte) buf.new result }
 {
-    let mut place = at;
-    let mut i = 0;
-    while i < times {
-        place = put_byte(buf, place, byte);
-        i += 1;
-    }
-    place
+    let end = at + times;
+    buf[at..end].fill(byte);
+    end
 }
 
 // The level counts of the summed columns.
@@ -101,11 +89,8 @@ fn put_summed_levels(buf: &mut [u8], at: usize, levels: &[u8], widths: &[u8]) ->
     ensures { Put buf.old at (summed_levels widths.now levels.now) buf.new result }
 {
     let mut place = at;
-    let mut j = 0;
-    while j < levels.len() {
-        let s = levels[j];
-        place = put_repeated(buf, place, s, widths[s as usize] as usize);
-        j += 1;
+    for s in levels {
+        place = put_repeated(buf, place, *s, widths[*s as usize] as usize);
     }
     place
 }

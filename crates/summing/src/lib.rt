@@ -13,7 +13,6 @@ use ingredients::named::NamedTable;
 use layout::Size;
 use sheets::answer::{Answer, Refusal};
 use spare::sheet_answer;
-use sum_bytes::Summands;
 use sum_operands::{matrix_named, summands};
 use sum_questions::parts_fit;
 use summed_sheet::{build, summed_columns};
@@ -97,21 +96,19 @@ pub fn sum(
     ensures left { Left (later_in list.now number (sheet_in table.old levels.old size) 3 at) table.old levels.old result table.new levels.new }
     ensures zeros { Zeros scratch.new }
 {
-    match summands(list, at) {
-        Summands::Missing => Answer::Refused(Refusal::StepNotAllowed { step: number }),
-        Summands::Named { k } => {
-            let start = at + 1;
-            let end = start + list[at] as usize;
-            fitting_sum(
-                list,
-                number,
-                &list[start..end],
-                k,
-                size,
-                table,
-                levels,
-                scratch,
-            )
-        }
-    }
+    let Some(k) = summands(list, at) else {
+        return Answer::Refused(Refusal::StepNotAllowed { step: number });
+    };
+    let start = at + 1;
+    let end = start + list[at] as usize;
+    fitting_sum(
+        list,
+        number,
+        &list[start..end],
+        k,
+        size,
+        table,
+        levels,
+        scratch,
+    )
 }

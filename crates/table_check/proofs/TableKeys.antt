@@ -10,6 +10,7 @@ use lib.Arith.{digits_lt, digits_div, digits_mod}
 use lib.Dec.{eqb}
 use lib.IntN.{ℤ}
 use lib.ListN.{length, get_or}
+use Rattle.std.specs.Prelude.{Err}
 use Rattle.finite.proofs.Tests.{eqb_and_agree}
 use Rattle.finite.specs.Sum.{count}
 use Rattle.finite.specs.Pairs.{ordinal}
@@ -19,7 +20,6 @@ use Rattle.counting.specs.Checkable.{CheckableTable}
 use Rattle.counting.specs.Verdict.{column_deviation, pair_at, pair_deviation, farthest_pair, named_pair, farthest_verdict}
 use Rattle.counting.specs.declared.verdict.TableFault.{TableFault}
 use Rattle.counting.specs.declared.verdict.TableFault.TheVariants.{Pair}
-use Rattle.counting.specs.declared.verdict.TableFinding.TheVariants.{Fails}
 use Rattle.counting.proofs.Deviations.{deviation_ext}
 use Rattle.counting.proofs.TableVerdicts.{named_gap, named_place}
 use Rattle.tally.specs.Tally.{keys_deviation}
@@ -90,12 +90,12 @@ module _ (cells levels : List ℕ) (runs : ℕ) (ok : CheckableTable cells level
 
   pub pair_farthest : (c d : ℕ) → d < length levels → {off : Discrepancy} {g : ℤ} {k : ℕ} → g ≡ off.gap → k ≡ ordinal (length levels) c d
       → off ≡ farthest_key (get_or levels c 0 * get_or levels d 0) runs (levels_key cells (length levels) c (get_or levels d 0) d)
-      → record { finding = Fails (named c d off); gap = g; pairs = k } ≡ farthest_verdict T c d
+      → record { finding = Err (named c d off); gap = g; pairs = k } ≡ farthest_verdict T c d
   unfolding farthest_key farthest_off discrepancy farthest_pair table_of
   pair_farthest c d h {off} {g} {k} off_Gap place e =
       let w = farthest_pair T c d in
-      ap (λ g. record { finding = Fails (named c d off); gap = g; pairs = k }) off_Gap
-      ∙ ap (λ (x : Discrepancy). record { finding = Fails (named c d x); gap = x.gap; pairs = k })
+      ap (λ g. record { finding = Err (named c d off); gap = g; pairs = k }) off_Gap
+      ∙ ap (λ (x : Discrepancy). record { finding = Err (named c d x); gap = x.gap; pairs = k })
       (e ∙ ap (farthest_off (get_or levels c 0 * get_or levels d 0) runs) (λ i v. pair_times c d h v i))
-      ∙ ap₂ (λ g k. record { finding = Fails (named_pair T c d w); gap = g; pairs = k }) (sym (named_gap T c d w))
+      ∙ ap₂ (λ g k. record { finding = Err (named_pair T c d w); gap = g; pairs = k }) (sym (named_gap T c d w))
       (place ∙ sym (named_place T c d w))

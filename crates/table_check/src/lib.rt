@@ -8,10 +8,9 @@ ghost use Rattle.finite.specs.Pairs.{ordinal};
 ghost use Rattle.counting.specs.Verdict.{table_finding, columns_fault, pairs_fault, farthest_verdict, verdict_of, table_verdict};
 ghost use Rattle.tally.specs.Tally.{Cleared};
 
-use counting::verdict::{TableFault, TableFinding, TableVerdict};
+use counting::verdict::{TableFault, TableVerdict};
 use finite::pairs::IndexPair;
 use level_counts::{farthest_levels, levels_deviation};
-use tally::Deviation;
 
 // The verdict on the table whose runs lie one after the other in `cells`.
 pub fn check_table(cells: &[u8], levels: &[u8], runs: usize) -> TableVerdict
@@ -19,40 +18,40 @@ pub fn check_table(cells: &[u8], levels: &[u8], runs: usize) -> TableVerdict
     ensures { result ≡ table_verdict (table_of cells.now levels.now runs) }
 {
     let mut counters = [0u16; 4096];
-    let finding = uneven_column(cells, levels, runs, &mut counters);
-    match finding {
-        TableFinding::Fails(fault) => TableVerdict {
-            finding: TableFinding::Fails(fault),
+    match uneven_column(cells, levels, runs, &mut counters) {
+        Err(fault) => TableVerdict {
+            finding: Err(fault),
             gap: 0,
             pairs: 0,
         },
-        TableFinding::Passes => uneven_pair(cells, levels, runs, &mut counters),
+        Ok(()) => uneven_pair(cells, levels, runs, &mut counters),
     }
 }
 
 // The first column with an uneven level.
-fn uneven_column(cells: &[u8], levels: &[u8], runs: usize, counters: &mut [u16]) -> TableFinding
+fn uneven_column(
+    cells: &[u8],
+    levels: &[u8],
+    runs: usize,
+    counters: &mut [u16],
+) -> Result<(), TableFault>
     requires checkable_table { CheckableTable cells.now levels.now runs }
     requires cleared { Cleared counters.old }
     ensures value { result ≡ table_finding (columns_fault (table_of cells.now levels.now runs)) }
-    ensures cleared_2 { result ≡ TableFinding.Passes → Cleared counters.new }
+    ensures cleared_2 { result ≡ Ok tt → Cleared counters.new }
 {
-    let mut column = 0;
-    while column < levels.len() {
-        let s = levels[column] as usize;
-        match levels_deviation(cells, runs, levels.len(), column, 0, column, s, counters) {
-            Deviation::At { value, times } => {
-                return TableFinding::Fails(TableFault::Column {
-                    column: column + 1,
-                    level: value,
-                    times,
-                });
-            }
-            Deviation::Nowhere => {}
+    for (column, s) in levels.iter().enumerate() {
+        let n = *s as usize;
+        let found = levels_deviation(cells, runs, levels.len(), column, 0, column, n, counters);
+        if let Some(deviation) = found {
+            return Err(TableFault::Column {
+                column: column + 1,
+                level: deviation.value,
+                times: deviation.times,
+            });
         }
-        column += 1;
     }
-    TableFinding::Passes
+    Ok(())
 }
 
 // The first two columns with an uneven pair of levels. A pair of columns is counted with each step, and past the last one the place is one more than there are
@@ -62,22 +61,30 @@ fn uneven_pair(cells: &[u8], levels: &[u8], runs: usize, counters: &mut [u16]) -
     requires cleared { Cleared counters.old }
     ensures { result ≡ verdict_of (table_of cells.now levels.now runs) (pairs_fault (table_of cells.now levels.now runs)) }
 {
+    // A `while`: the place of the pair past the last, which ends it, tells how many pairs there are.
     let mut pair = IndexPair::start();
     while pair.second < levels.len() {
         let first = pair.first;
         let second = pair.second;
         let s = levels[first] as usize;
         let t = levels[second] as usize;
-        match levels_deviation(cells, runs, levels.len(), first, t, second, s * t, counters) {
-            Deviation::At { value: _, times: _ } => {
-                return farthest_pair(cells, levels, runs, pair);
-            }
-            Deviation::Nowhere => {}
+        if levels_deviation(
+            cells,
+            runs,
+            levels.len(),
+            first,
+            t,
+            second,
+            s * t,
+            counters,
+        ).is_some()
+        {
+            return farthest_pair(cells, levels, runs, pair);
         }
         pair = pair.next(levels.len());
     }
     TableVerdict {
-        finding: TableFinding::Passes,
+        finding: Ok(()),
         gap: 0,
         pairs: pair.ordinal - 1,
     }
@@ -96,7 +103,7 @@ fn farthest_pair(cells: &[u8], levels: &[u8], runs: usize, pair: IndexPair) -> T
     let t = levels[second] as usize;
     let farthest = farthest_levels(cells, runs, levels.len(), first, t, second, s * t);
     TableVerdict {
-        finding: TableFinding::Fails(TableFault::Pair {
+        finding: Err(TableFault::Pair {
             first: first + 1,
             second: second + 1,
             first_level: farthest.value / t,

@@ -11,26 +11,25 @@ ghost use Rattle.std.specs.Prelude.{◌≤◌, ◌<◌, length};
 use decimals::put_signed;
 use input::scan_input;
 use std::io;
-use stored_calls::least;
-use words::Scanned;
 use written_check::{check_numbers, check_written};
 use written_table::TableCheck;
 
 fn main(rt: HostRuntime) -> io::Result<()> {
     let mut list = [0u16; 32768];
     match scan_input(&mut rt.stdin(), &mut list) {
-        Scanned::Numbers { count } => answer_first(&rt, &list, count),
-        Scanned::Refused { place: _ } => Ok(()),
+        Ok(count) => answer_first(&rt, &list, count),
+        Err(_) => Ok(()),
     }
 }
 
 // Answers the calls that so many numbers at the front of a list hold.
 fn answer_first(rt: &impl Print, list: &[u16], count: usize) -> io::Result<()> {
-    let end = least(count, list.len());
+    let end = count.min(list.len());
     answer_calls(rt, &list[..end])
 }
 
-// Answers the calls that a list holds, one after the other.
+// Answers the calls that a list holds, one after the other. It is a `while`, since each call says where the next one
+// stands.
 fn answer_calls(rt: &impl Print, list: &[u16]) -> io::Result<()> {
     let mut at = 0;
     while at < list.len() {
@@ -45,7 +44,7 @@ fn answer_call(rt: &impl Print, list: &[u16], at: usize) -> usize
     ensures { (at < result) × (result ≤ length list.now) }
 {
     let start = at + 1;
-    let end = start + least(wide(list[at]), list.len() - start);
+    let end = start + wide(list[at]).min(list.len() - start);
     match write_check(rt, check_written(&list[start..end])) {
         Ok(()) => {}
         Err(_) => {}
@@ -60,12 +59,8 @@ fn wide(number: u16) -> usize {
 
 // Writes the line of an answer.
 fn write_check(rt: &impl Print, check: TableCheck) -> io::Result<()> {
-    let passing = check.passing;
-    let numbers = check_numbers(passing);
-    let mut i = 0;
-    while i < 7 {
-        print!(rt; "{} ", numbers[i])?;
-        i += 1;
+    for number in check_numbers(check.passing) {
+        print!(rt; "{number} ")?;
     }
     write_gap(rt, check.gap)?;
     write_pairs(rt, check.pairs)

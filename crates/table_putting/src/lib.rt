@@ -21,10 +21,8 @@ pub fn put_run(list: &[u16], table: NamedTable, run: usize, buf: &mut [u8], at: 
 {
     let width = column_count(list, table);
     let mut place = at;
-    let mut column = 0;
-    while column < width {
+    for column in 0..width {
         place = put_byte(buf, place, level(list, table, run, column));
-        column += 1;
     }
     place
 }
@@ -37,10 +35,8 @@ pub fn put_runs(list: &[u16], table: NamedTable, buf: &mut [u8]) -> usize
 {
     let runs = run_count(list, table);
     let mut place = 0;
-    let mut run = 0;
-    while run < runs {
+    for run in 0..runs {
         place = put_run(list, table, run, buf, place);
-        run += 1;
     }
     place
 }
@@ -53,10 +49,8 @@ pub fn put_level_counts(list: &[u16], table: NamedTable, buf: &mut [u8], at: usi
 {
     let width = column_count(list, table);
     let mut place = at;
-    let mut column = 0;
-    while column < width {
+    for column in 0..width {
         place = put_byte(buf, place, level_count(list, table, column));
-        column += 1;
     }
     place
 }

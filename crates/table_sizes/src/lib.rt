@@ -8,6 +8,7 @@ ghost use Rattle.ingredients.specs.Named.{table_in, Legible};
 use ingredients::named::NamedTable;
 
 // How many runs it has.
+#[tactic(auto, unfolding(ingredients::specs::Named::Legible, ingredients::specs::Named::table_in, counting::specs::Table::table_of))]
 pub fn run_count(list: &[u16], table: NamedTable) -> usize
     requires { Legible list.now table }
     ensures { result ≡ (table_in list.now table).runs }
@@ -25,6 +26,7 @@ pub fn run_count(list: &[u16], table: NamedTable) -> usize
 }
 
 // How many columns it has.
+#[tactic(auto, using(ingredients::proofs::OwnTables::own_columns), unfolding(ingredients::specs::Named::Legible, ingredients::specs::Named::table_in))]
 pub fn column_count(list: &[u16], table: NamedTable) -> usize
     requires { Legible list.now table }
     ensures { result ≡ columns (table_in list.now table) }

@@ -1,6 +1,7 @@
 -- Counters that are filled run by run hold the counts of the keys; and what the answer says of the search.
 -- Assumes nothing.
-use mathlib.Core.Path.{◌≡◌, refl, sym, ◌∙◌}
+use mathlib.Core.Path.{◌≡◌, refl, sym, ◌∙◌, ap}
+use mathlib.Core.Bool.{true, false}
 use mathlib.Core.Logic.{by_cases}
 use mathlib.Core.List.{List, [], ◌∷◌}
 use mathlib.Core.Option.{Option, none, some}
@@ -15,11 +16,13 @@ use mir.Syntax.{w16}
 use mir.Val.{Fits}
 use lib.ListN.{get_or, set, length-set, replicate, length-replicate}
 use lib.Seq.{get_or-set_same, get_or-set_other}
+use Rattle.std.specs.Prelude.{Some, None, is_some}
+use Rattle.std.specs.Prelude as Prelude
 use Rattle.finite.proofs.Counts.{count_suc, count_none, count_never, count_le}
 use Rattle.counting.specs.Verdict.{Counted, deviation}
 use Rattle.counting.proofs.Deviations.{deviation_ext}
 use Rattle.tally.specs.Tally.{Cleared, Tallied, keys_deviation, as_deviation}
-use Rattle.tally.specs.declared.Deviation.TheVariants.{At, Nowhere}
+use Rattle.tally.specs.declared.Deviation.{Deviation}
 
 get_d_zeros : (n k : ℕ) → ◌≡◌ {A = ℕ} (get_or (replicate n 0) k 0) 0
 get_d_zeros zero k = refl
@@ -71,18 +74,22 @@ pub past_keys : {counters : List ℕ} {runs : ℕ} {key : ℕ → ℕ} (n : ℕ)
 past_keys {runs = runs} n t below v h =
     t.counts v ∙ count_never runs (λ r l. ne_eqb _ v (λ e. omega (arith, below r l)))
 
--- a value named is not none
-pub at_not_nowhere : (v t : ℕ) → At v t ≡ Nowhere → ⊥
-at_not_nowhere v t e = let z : ◌≡◌ {A = ℕ} 0 1 = cc in omega arith
+-- the answer says what the search found
+pub at_some : (o : Option Counted) (d : Deviation) → Some d ≡ as_deviation o → o ≡ some (record { value = d.value; times = d.times })
+at_some none d e = cc
+at_some (some x) d e =
+    let p : d ≡ record { value = x.value; times = x.times } = cc in
+    ap (λ (found : Deviation). some (record { value = found.value; times = found.times })) (sym p)
 
--- the enum says what the search found
-pub at_some : (o : Option Counted) (v t : ℕ) → At v t ≡ as_deviation o → o ≡ some (record { value = v; times = t })
-at_some none v t e = absurd (at_not_nowhere v t e)
-at_some (some x) v t e =
-    let p : v ≡ x.value = cc in
-    let q : t ≡ x.times = cc in
-    λ i. some (record { value = sym p i; times = sym q i })
-
-pub nowhere_none : (o : Option Counted) → Nowhere ≡ as_deviation o → o ≡ none
+pub nowhere_none : (o : Option Counted) → None ≡ as_deviation o → o ≡ none
 nowhere_none none e = refl
-nowhere_none (some x) e = absurd (at_not_nowhere _ _ (sym e))
+nowhere_none (some x) e = cc
+
+-- and so does the test whether there is one
+pub some_found : (o : Option Counted) {r : Prelude.Option Deviation} → r ≡ as_deviation o → is_some r ≡ true → (x : Counted) × (o ≡ some x)
+some_found none v e = let never = rw v at e in cc
+some_found (some x) v e = (x, refl)
+
+pub none_left : (r : Prelude.Option Deviation) → is_some r ≡ false → r ≡ None
+none_left None e = refl
+none_left (Some d) e = cc

@@ -1,10 +1,10 @@
 -- What the counters of a check hold.
-use Rattle.std.specs.Prelude.{◌≡◌, ℕ, List, eqb, length, get_or}
+use Rattle.std.specs.Prelude.{◌≡◌, ℕ, List, eqb, length, get_or, Some, None}
+use Rattle.std.specs.Prelude as Prelude
 use Rattle.std.proofs.Math.Option.{Option, none, some}
 use Rattle.finite.specs.Sum.{count}
 use Rattle.counting.specs.Verdict.{Counted, deviation}
 use Rattle.tally.specs.declared.Deviation.{Deviation}
-use Rattle.tally.specs.declared.Deviation.TheVariants.{Nowhere, At}
 
 -- 4,096 counters, all zero
 pub record Cleared (counters : List ℕ) : Type 0 where
@@ -21,6 +21,6 @@ unfoldable pub keys_deviation : ℕ → ℕ → (ℕ → ℕ) → Option Counted
 keys_deviation n runs key = deviation n runs (λ v. count runs (λ r. eqb (key r) v))
 
 -- what was found, as the code answers it
-abbrev pub as_deviation : Option Counted → Deviation
-as_deviation none = Nowhere
-as_deviation (some x) = At x.value x.times
+abbrev pub as_deviation : Option Counted → Prelude.Option Deviation
+as_deviation none = None
+as_deviation (some x) = Some (record { value = x.value; times = x.times })

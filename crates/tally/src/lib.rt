@@ -6,29 +6,28 @@ ghost use Rattle.std.specs.Prelude.{◌≡◌, ℕ, ◌≤◌, length, get_or};
 ghost use Rattle.counting.specs.Verdict.{deviation};
 ghost use Rattle.tally.specs.Tally.{Cleared, as_deviation};
 
-// The lowest value that does not stand in its share of the runs.
+// A value that does not stand in its share of the runs, with the number of runs in which it stands.
 #[derive(Clone, Copy)]
-pub enum Deviation {
-    Nowhere,
-    At { value: usize, times: usize },
+pub struct Deviation {
+    pub value: usize,
+    pub times: usize,
 }
 
-// The lowest of n values whose counter is not the n-th part of the runs. Each counter that is read is set back to zero.
-pub fn first_deviation(counters: &mut [u16], n: usize, runs: usize) -> Deviation
+// The lowest of n values whose counter is not the n-th part of the runs, or `None` where each is. Each counter that is
+// read is set back to zero.
+pub fn first_deviation(counters: &mut [u16], n: usize, runs: usize) -> Option<Deviation>
     requires { (length counters.old ≡ 4096) × (n ≤ 4096) }
     ensures value { result ≡ as_deviation (deviation n runs (λ v. get_or counters.old v 0)) }
-    ensures cleared { result ≡ Deviation.Nowhere
+    ensures cleared { result ≡ None
         → ((v : ℕ) → n ≤ v → get_or counters.old v 0 ≡ 0)
         → Cleared counters.new }
 {
-    let mut value = 0;
-    while value < n {
+    for value in 0..n {
         let times = counters[value] as usize;
         counters[value] = 0;
         if n * times != runs {
-            return Deviation::At { value, times };
+            return Some(Deviation { value, times });
         }
-        value += 1;
     }
-    Deviation::Nowhere
+    None
 }

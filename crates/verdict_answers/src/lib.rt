@@ -5,73 +5,70 @@ ghost use Rattle.std.specs.Prelude.{◌≡◌};
 ghost use Rattle.sheets.specs.Outcome.{table_refusal, matrix_refusal, generator_refusal};
 ghost use Rattle.question_4.specs.Passing.{passing_of};
 
-use counting::verdict::{GeneratorFinding, MatrixFinding, TableFault, TableFinding, TableVerdict};
-use question_4::Passing;
+use counting::verdict::{DependenceFault, DifferenceFault, TableFault, TableVerdict};
 use sheets::answer::Refusal;
 
 // What a table's verdict says of ingredient number i.
-pub fn table_passing(i: usize, verdict: TableVerdict) -> Passing
+#[tactic(auto, unfolding(question_4::specs::Passing::passing_of, sheets::specs::Outcome::table_refusal))]
+pub fn table_passing(i: usize, verdict: TableVerdict) -> Result<(), Refusal>
     ensures { result ≡ passing_of (table_refusal i verdict.finding) }
 {
-    let finding = verdict.finding;
-    match finding {
-        TableFinding::Passes => Passing::AllPass,
-        TableFinding::Fails(fault) => match fault {
+    match verdict.finding {
+        Ok(()) => Ok(()),
+        Err(
             TableFault::Column {
                 column,
                 level,
                 times,
-            } => Passing::Refused(Refusal::UnevenLevel {
-                ingredient: i,
-                column,
-                level,
-                times,
-            }),
+            },
+        ) => Err(Refusal::UnevenLevel {
+            ingredient: i,
+            column,
+            level,
+            times,
+        }),
+        Err(
             TableFault::Pair {
                 first,
                 second,
                 first_level,
                 second_level,
                 times,
-            } => Passing::Refused(Refusal::UnevenPair {
-                ingredient: i,
-                first,
-                second,
-                first_level,
-                second_level,
-                times,
-            }),
-        },
+            },
+        ) => Err(Refusal::UnevenPair {
+            ingredient: i,
+            first,
+            second,
+            first_level,
+            second_level,
+            times,
+        }),
     }
 }
 
 // The same of a matrix.
-pub fn matrix_passing(i: usize, finding: MatrixFinding) -> Passing
+#[tactic(auto, unfolding(question_4::specs::Passing::passing_of, sheets::specs::Outcome::matrix_refusal))]
+pub fn matrix_passing(i: usize, finding: Result<(), DifferenceFault>) -> Result<(), Refusal>
     ensures { result ≡ passing_of (matrix_refusal i finding) }
 {
-    match finding {
-        MatrixFinding::Passes => Passing::AllPass,
-        MatrixFinding::Fails(fault) => Passing::Refused(Refusal::UnevenDifference {
-            ingredient: i,
-            first: fault.first,
-            second: fault.second,
-            difference: fault.difference,
-            times: fault.times,
-        }),
-    }
+    finding.map_err(|fault| Refusal::UnevenDifference {
+        ingredient: i,
+        first: fault.first,
+        second: fault.second,
+        difference: fault.difference,
+        times: fault.times,
+    })
 }
 
 // And of a generator.
-pub fn generator_passing(i: usize, finding: GeneratorFinding) -> Passing
+#[tactic(auto, unfolding(question_4::specs::Passing::passing_of, sheets::specs::Outcome::generator_refusal))]
+pub fn generator_passing(i: usize, finding: Result<(), DependenceFault>) -> Result<(), Refusal>
     ensures { result ≡ passing_of (generator_refusal i finding) }
 {
-    match finding {
-        GeneratorFinding::Passes => Passing::AllPass,
-        GeneratorFinding::Fails(fault) => Passing::Refused(Refusal::Dependent {
-            ingredient: i,
-            first: fault.first,
-            second: fault.second,
-            coefficients: fault.coefficients,
-        }),
-    }
+    finding.map_err(|fault| Refusal::Dependent {
+        ingredient: i,
+        first: fault.first,
+        second: fault.second,
+        coefficients: fault.coefficients,
+    })
 }

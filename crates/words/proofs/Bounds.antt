@@ -8,12 +8,11 @@ use native.Mathlib.Omega.{arith}
 use borrow.Author.Tests.{ltb-true, lt-ltb}
 use lib.Dec.{leb, ltb}
 use lib.ListN.{length, set, length-set}
+use Rattle.std.specs.Prelude.{Ok, Err}
 use Rattle.words.specs.Words.{is_gap, is_digit, refused}
-use Rattle.words.specs.Scanner.{grown, begun, stored, resumed, Progress, scan_step, stepped, advanced, finish_of, finished, scanned_reading, taken, place_at_end, Unfinished, Ended}
+use Rattle.words.specs.Scanner.{Scanned, grown, begun, stored, resumed, Progress, scan_step, stepped, advanced, finish_of, finished, scanned_reading, taken, place_at_end, Unfinished, Ended}
 use Rattle.words.specs.declared.Scan.{Scan}
 use Rattle.words.specs.declared.Scan.TheVariants.{Between, Inside, Failed}
-use Rattle.words.specs.declared.Scanned.{Scanned}
-use Rattle.words.specs.declared.Scanned.TheVariants.{Numbers, Refused}
 use Rattle.lines.proofs.Cases.{by_cases}
 use Rattle.words.proofs.Following.{not_refused}
 
@@ -24,11 +23,11 @@ grown_taken count value byte h =
     by_cases (is_digit byte && leb next 65535) (λ t. rw t (omega arith)) (λ t. rw t (omega arith))
 
 resumed_taken : (r : Scanned) → taken (resumed r) ≡ place_at_end r
-resumed_taken (Numbers count) = refl
-resumed_taken (Refused at) = refl
+resumed_taken (Ok count) = refl
+resumed_taken (Err bad) = refl
 
 -- Where there is a place for a word, its number is stored.
-stored_there : (count value : ℕ) (list : List ℕ) → count < 32768 → stored count value list ≡ (Numbers (count + 1), set list count value)
+stored_there : (count value : ℕ) (list : List ℕ) → count < 32768 → stored count value list ≡ (Ok (count + 1), set list count value)
 unfolding stored
 stored_there count value list h = rw (lt-ltb count 32768 h)
 
@@ -77,7 +76,7 @@ module _ {places : ℕ} {s : Scan} {list : List ℕ} (h : Unfinished places s li
   unfolding finished
   sound_finish e = subst (λ (p : Scanned × List ℕ). Ended places p.0 p.1) (sym e) (sound_end s list h)
 
-pub ended_room : {places count : ℕ} {r : Scanned} {list : List ℕ} → Ended places r list → r ≡ Numbers count → 32768 ≤ places → count ≤ length list
+pub ended_room : {places count : ℕ} {r : Scanned} {list : List ℕ} → Ended places r list → r ≡ Ok count → 32768 ≤ places → count ≤ length list
 ended_room e n h = omega (arith, rw n at e.low, e.kept)
 
 -- Where a text is refused, the scanner has failed already, so that a program need not read on to find out.

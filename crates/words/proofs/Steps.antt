@@ -35,9 +35,9 @@ module _ (list : List ℕ) (byte : ℕ) {s : Scan} where
 
 -- A piece, byte by byte: what is left of it from an index on.
 module _ (p : Progress) (bytes : List ℕ) (i : ℕ) where
-  pub advanced_at : {q : Progress} → i < length bytes → q ≡ stepped p (get_or bytes i 0) → advanced p (drop i bytes) ≡ advanced q (drop (i + 1) bytes)
+  pub advanced_drop : i < length bytes → advanced p (drop i bytes) ≡ advanced (stepped p (get_or bytes i 0)) (drop (i + 1) bytes)
   unfolding advanced
-  advanced_at h e = rw (e, add-one, drop-cons bytes i 0)
+  advanced_drop h = rw (add-one, drop-cons bytes i 0)
 
   pub advanced_end : length bytes ≤ i → advanced p (drop i bytes) ≡ p
   unfolding advanced

@@ -1,7 +1,8 @@
 // What the decimal words of a text come to (document 01, "Printed runs"), as definitions and laws, and how far a scanner has read them.
 #![tactic(auto)]
 
-// How far a text has been read.
+// How far a text has been read. A refusal is a state like the others, and no `Err`: a scanner that has come to it
+// takes further bytes, and keeps it.
 #[derive(Clone, Copy)]
 pub enum Scan {
     // Between words, after so many numbers.
@@ -12,11 +13,9 @@ pub enum Scan {
     Failed { place: usize },
 }
 
-// What a whole text comes to.
+// The first word that is refused, by its place. A whole text comes to this, or to so many numbers at the front of the
+// list.
 #[derive(Clone, Copy)]
-pub enum Scanned {
-    // So many numbers, at the front of the list.
-    Numbers { count: usize },
-    // The place of the first word that is refused.
-    Refused { place: usize },
+pub struct BadWord {
+    pub place: usize,
 }

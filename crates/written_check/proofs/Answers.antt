@@ -1,5 +1,6 @@
 -- What the parts of the code find is what the definitions give.
 -- Assumes nothing.
+use Rattle.std.specs.Prelude.{Result, Ok, Err, Some}
 use mathlib.Core.Path.{◌≡◌, refl, sym, ◌∙◌, ap, subst}
 use mathlib.Core.Bool.{Bool, true, false}
 use mathlib.Core.List.{List}
@@ -14,12 +15,11 @@ use Rattle.order.specs.Grammar.{read_ingredient, at_end}
 use Rattle.order.specs.Answers.{located, spot_of}
 use Rattle.order.specs.Range.{ingredient_range, earlier}
 use Rattle.order.specs.declared.Cursor.{Cursor}
-use Rattle.order.specs.declared.Entries.{Entries}
-use Rattle.order.specs.declared.Entries.TheVariants.{InRange, OutOfRange, Unread}
+use Rattle.order.specs.declared.RangeFault.{RangeFault}
+use Rattle.order.specs.declared.RangeFault.TheVariants.{OutOfRange, Unread}
 use Rattle.order.specs.declared.Located.{Located}
-use Rattle.order.specs.declared.Located.TheVariants.{Table as TableAt, Matrix as MatrixAt, Generator as GeneratorAt, Missing}
-use Rattle.order.specs.declared.Spot.{Spot}
-use Rattle.order.specs.declared.Spot.TheVariants.{Found, Refused as Refused_spot}
+use Rattle.order.specs.declared.Located.TheVariants.{Table as TableAt, Matrix as MatrixAt, Generator as GeneratorAt}
+use Rattle.order.specs.declared.Refused.{Refused}
 use Rattle.order.proofs.Answers.{spot_value, spot_refused}
 use Rattle.order.proofs.InRange.{ingredient_iff}
 use Rattle.counting.specs.Table.{table_of}
@@ -42,21 +42,21 @@ use Rattle.written_check.specs.Reading.{to_end, ReadAs}
 
 -- A number is left over, or none is.
 module _ (what : Located) (next : Cursor) (end : ℕ) where
-  pub left_over : next.at < end → Refused_spot next.at ≡ to_end what next end
+  pub left_over : next.at < end → Err (record { place = next.at }) ≡ to_end what next end
   unfolding to_end
   left_over h = rw (lt-ltb next.at end h)
 
-  pub none_left : end ≤ next.at → Found what (record { at = end }) ≡ to_end what next end
+  pub none_left : end ≤ next.at → Ok (what, record { at = end }) ≡ to_end what next end
   unfolding to_end
   none_left h = rw (le-ltb next.at end h)
 
 module _ (list : List ℕ) where
-  pub too_long : 32768 < length list → Refused_spot 32768 ≡ spot_of 3 (read_table list)
+  pub too_long : 32768 < length list → Err (record { place = 32768 }) ≡ spot_of 3 (read_table list)
   unfolding read_table spot_of
   too_long long = rw (lt-ltb 32768 (length list) long)
 
   module _ (short : length list ≤ 32768) where
-    pub no_table : (get_or list 0 0 ≡ 1 → ⊥) → Refused_spot 0 ≡ spot_of 3 (read_table list)
+    pub no_table : (get_or list 0 0 ≡ 1 → ⊥) → Err (record { place = 0 }) ≡ spot_of 3 (read_table list)
     unfolding read_table spot_of
     no_table other = rw (le-ltb 32768 (length list) short, ne_eqb (get_or list 0 0) 1 other)
 
@@ -65,7 +65,7 @@ module _ (list : List ℕ) where
       unfolding read_table
       from_ingredient = rw (le-ltb 32768 (length list) short, eq-eqb (get_or list 0 0) 1 one)
 
-      pub table_refused : {place : ℕ} → spot_of 3 (read_ingredient list 0) ≡ Refused_spot place → Refused_spot place ≡ spot_of 3 (read_table list)
+      pub table_refused : {refusal : Refused} → spot_of 3 (read_ingredient list 0) ≡ Err refusal → Err refusal ≡ spot_of 3 (read_table list)
       unfolding spot_of
       table_refused e =
           ap (λ p. spot_of 3 (continue p (λ g next. at_end g list next))) (sym (spot_refused 3 (read_ingredient list 0) e)) ∙ ap (spot_of 3) from_ingredient
@@ -75,38 +75,37 @@ module _ (list : List ℕ) where
       unfolding to_end spot_of
       ended g at = go (ltb at (length list))
         where
-          go : (b : Bool) → when b (Refused_spot at) (Found (located 3 g) (record { at = length list })) ≡ spot_of 3 (when b (refused at) (value g (length list)))
+          go : (b : Bool) → when b (Err (record { place = at })) (Ok (located 3 g, record { at = length list })) ≡ spot_of 3 (when b (refused at) (value g (length list)))
           go true = refl
           go false = refl
 
-      pub table_found : {what : Located} {next : Cursor} {r : Spot} → spot_of 3 (read_ingredient list 0) ≡ Found what next → r ≡ to_end what next (length list) → r ≡ spot_of 3 (read_table list)
+      pub table_found : {what : Located} {next : Cursor} {r : Result (Located × Cursor) Refused} → spot_of 3 (read_ingredient list 0) ≡ Ok (what, next) → r ≡ to_end what next (length list) → r ≡ spot_of 3 (read_table list)
       table_found {what} {next} e r =
           spot_value 3 (read_ingredient list 0) e λ g same v.
           r ∙ ap (λ w. to_end w next (length list)) same ∙ ended g next.at
           ∙ ap (λ p. spot_of 3 (continue p (λ g next. at_end g list next))) (sym v) ∙ ap (spot_of 3) from_ingredient
 
 -- What the reading says of the answer.
-pub read_refused : (list : List ℕ) {r : TableCheck} {place : ℕ} → spot_of 3 (read_table list) ≡ Refused_spot place → r ≡ refused_check (Unreadable place) → r ≡ table_check list
+pub read_refused : (list : List ℕ) {r : TableCheck} {refusal : Refused} → spot_of 3 (read_table list) ≡ Err refusal → r ≡ refused_check (Unreadable refusal.place) → r ≡ table_check list
 unfolding table_check
 read_refused list e h = h ∙ ap parsed_check (sym (spot_refused 3 _ e))
 
-pub read_as : (list : List ℕ) {what : Located} {next : Cursor} → spot_of 3 (read_table list) ≡ Found what next → ReadAs list what
+pub read_as : (list : List ℕ) {what : Located} {next : Cursor} → spot_of 3 (read_table list) ≡ Ok (what, next) → ReadAs list what
 read_as list {what} {next} e =
     spot_value 3 (read_table list) e λ g same v. record { ingredient = g; next = next.at; reads = v; places = same }
 
 -- ---- question 3
 
-earlier_last : (x : Entries) → earlier x InRange ≡ x
-earlier_last InRange = refl
-earlier_last (OutOfRange place) = refl
-earlier_last Unread = refl
+earlier_last : (x : Result (Unit {0}) RangeFault) → earlier x (Ok tt) ≡ x
+earlier_last (Ok tt) = refl
+earlier_last (Err fault) = refl
 
 scanned_one : {list : List ℕ} {rows : ℕ} {levels entries : List ℕ} → Written list (table rows levels entries) → scanned 1 list 0 ≡ ingredient_range 3 (table rows levels entries)
 scanned_one read = rw (ingredient_read read) (earlier_last _)
 
 module _ {list : List ℕ} {what : Located} (read : ReadAs list what) where
   -- What was read is a table, and the answer goes by what question 3 finds.
-  by_range : {C : Type 0} (x : Entries) → scanned 1 list 0 ≡ x
+  by_range : {C : Type 0} (x : Result (Unit {0}) RangeFault) → scanned 1 list 0 ≡ x
       → ((rows : ℕ) (levels entries : List ℕ) → what ≡ TableAt rows (length levels) 3 (3 + length levels) → Written list (table rows levels entries)
       → ingredient_range 3 (table rows levels entries) ≡ x → range_check x (table_verdict (table_of entries levels rows)) ≡ table_check list → C)
       → C
@@ -117,15 +116,15 @@ module _ {list : List ℕ} {what : Located} (read : ReadAs list what) where
       found rows levels entries (read.places ∙ ap (located 3) is) reads range
       (ap (λ y. range_check y (table_verdict (table_of entries levels rows))) (sym range) ∙ ap parsed_check (sym (read.reads ∙ ap (λ g. value g read.next) is)))
 
-  pub out_of_range : {r : TableCheck} {place : ℕ} → scanned 1 list 0 ≡ OutOfRange place → r ≡ refused_check (EntryOutOfRange place) → r ≡ table_check list
+  pub out_of_range : {r : TableCheck} {place : ℕ} → scanned 1 list 0 ≡ Err (OutOfRange place) → r ≡ refused_check (EntryOutOfRange place) → r ≡ table_check list
   out_of_range e h = by_range _ e λ rows levels entries same reads range is. h ∙ is
 
-  pub unread : {r : TableCheck} → scanned 1 list 0 ≡ Unread → r ≡ refused_check (Unreadable 0) → r ≡ table_check list
+  pub unread : {r : TableCheck} → scanned 1 list 0 ≡ Err Unread → r ≡ refused_check (Unreadable 0) → r ≡ table_check list
   unread e h = by_range _ e λ rows levels entries same reads range is. h ∙ is
 
   -- ---- question 4
 
-  module _ (e : scanned 1 list 0 ≡ InRange) where
+  module _ (e : scanned 1 list 0 ≡ Ok tt) where
     written : {C : Type 0}
         → ((rows : ℕ) (levels entries : List ℕ) → what ≡ TableAt rows (length levels) 3 (3 + length levels) → Writes list rows levels entries
         → verdict_check (table_verdict (table_of entries levels rows)) ≡ table_check list → C)
@@ -143,7 +142,6 @@ module _ {list : List ℕ} {what : Located} (read : ReadAs list what) where
         StandsAt (TableAt rows columns levels_at entries_at) = TableStands list rows columns levels_at entries_at
         StandsAt (MatrixAt rows columns p entries_at) = Unit {0}
         StandsAt (GeneratorAt t n s widths_at width entries_at) = Unit {0}
-        StandsAt Missing = Unit {0}
 
     -- It is nothing but a table, as a `match` knows it.
     pub no_other : ((rows columns levels_at entries_at : ℕ) → what ≡ TableAt rows columns levels_at entries_at → ⊥) → ⊥
@@ -154,7 +152,7 @@ module _ {list : List ℕ} {what : Located} (read : ReadAs list what) where
     unfolding own_table
     verdict_answer there v h =
         written λ rows levels entries same w is.
-        h ∙ ap verdict_check (v ∙ ap table_verdict (ap (λ L. table_in list (own_table L)) (sym there ∙ same) ∙ table_there w)) ∙ is
+        h ∙ ap verdict_check (v ∙ ap table_verdict (ap (λ L. table_in list (own_table (Some L))) (sym there ∙ same) ∙ table_there w)) ∙ is
 
 -- Arrays of zeros as they are made are room for the numbers of any table.
 pub made_room : (n m : ℕ) → 65536 ≡ n → 128 ≡ m → Room (replicate n 0) (replicate m 0)

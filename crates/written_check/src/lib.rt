@@ -1,9 +1,8 @@
 // The check of a table that is handed in by itself, written as an ingredient of an order is (document 02, K5).
 #![tactic(auto)]
 
-ghost use Rattle.std.specs.Prelude.{◌≡◌};
+ghost use Rattle.std.specs.Prelude.{◌≡◌, Ok};
 ghost use Rattle.order.specs.Answers.{spot_of};
-ghost use Rattle.order.specs.declared.Entries.TheVariants.{InRange};
 ghost use Rattle.counting.specs.Verdict.{table_verdict};
 ghost use Rattle.ingredients.specs.Named.{table_in};
 ghost use Rattle.ingredients.specs.Standing.{TableStands};
@@ -20,8 +19,7 @@ use list_ingredients::ingredient;
 use list_numbers::peek;
 use list_verdicts::table_verdict;
 use numbering::numbers_of;
-use order::{Cursor, Entries, Located, Spot};
-use question_4::Passing;
+use order::{Cursor, Located, RangeFault, Refused};
 use sheets::answer::Refusal;
 use verdict_answers::table_passing;
 use written_table::TableCheck;
@@ -31,18 +29,20 @@ pub fn check_written(list: &[u16]) -> TableCheck
     ensures { CheckPromise list.now result }
 {
     match read_table(list) {
-        Spot::Found { what, next: _ } => check_entries(list, what),
-        Spot::Refused { place } => refused(Refusal::Unreadable { place }),
+        Ok((what, _)) => check_entries(list, what),
+        Err(refusal) => refused(Refusal::Unreadable {
+            place: refusal.place,
+        }),
     }
 }
 
 // The answer in numbers: zeros for a table that passes, or 01's number of the refusal and its six details.
-pub fn check_numbers(passing: Passing) -> [usize; 7]
+pub fn check_numbers(passing: Result<(), Refusal>) -> [usize; 7]
     ensures { result ≡ check_numbers passing }
 {
     match passing {
-        Passing::AllPass => [0, 0, 0, 0, 0, 0, 0],
-        Passing::Refused(why) => numbers_of(why),
+        Ok(()) => [0, 0, 0, 0, 0, 0, 0],
+        Err(why) => numbers_of(why),
     }
 }
 
@@ -51,40 +51,35 @@ fn refused(why: Refusal) -> TableCheck
     ensures { result ≡ refused_check why }
 {
     TableCheck {
-        passing: Passing::Refused(why),
+        passing: Err(why),
         gap: 0,
         pairs: 0,
     }
 }
 
 // Question 2: where the table stands in the list, or where the list is refused.
-fn read_table(list: &[u16]) -> Spot
+fn read_table(list: &[u16]) -> Result<(Located, Cursor), Refused>
     ensures { result ≡ spot_of 3 (read_table list.now) }
 {
     if 32768 < list.len() {
-        return Spot::Refused { place: 32768 };
+        return Err(Refused { place: 32768 });
     }
     if peek(list, Cursor { at: 0 }) != 1 {
-        return Spot::Refused { place: 0 };
+        return Err(Refused { place: 0 });
     }
-    match ingredient(list, Cursor { at: 0 }) {
-        Spot::Found { what, next } => to_end(what, next, list.len()),
-        Spot::Refused { place } => Spot::Refused { place },
-    }
+    let (what, next) = ingredient(list, Cursor { at: 0 })?;
+    to_end(what, next, list.len())
 }
 
 // What was read up to a cursor, where nothing may be left over of so many numbers.
-fn to_end(what: Located, next: Cursor, length: usize) -> Spot
+fn to_end(what: Located, next: Cursor, length: usize) -> Result<(Located, Cursor), Refused>
     ensures { result ≡ to_end what next length }
 {
     let at = next.at;
     if at < length {
-        return Spot::Refused { place: at };
+        return Err(Refused { place: at });
     }
-    Spot::Found {
-        what,
-        next: Cursor { at: length },
-    }
+    Ok((what, Cursor { at: length }))
 }
 
 // Question 3, and then the verdict.
@@ -93,16 +88,16 @@ fn check_entries(list: &[u16], what: Located) -> TableCheck
     ensures { result ≡ table_check list.now }
 {
     match first_out_of_range_among(list, Cursor { at: 0 }, 1) {
-        Entries::InRange => check_in_range(list, what),
-        Entries::OutOfRange { place } => refused(Refusal::EntryOutOfRange { place }),
-        Entries::Unread => refused(Refusal::Unreadable { place: 0 }),
+        Ok(()) => check_in_range(list, what),
+        Err(RangeFault::OutOfRange { place }) => refused(Refusal::EntryOutOfRange { place }),
+        Err(RangeFault::Unread) => refused(Refusal::Unreadable { place: 0 }),
     }
 }
 
 // Question 4 of a table with every entry in range. As the first number is 1, what was read is a table.
 fn check_in_range(list: &[u16], what: Located) -> TableCheck
     requires read_as { ReadAs list.now what }
-    requires list_value { scanned 1 list.now 0 ≡ InRange }
+    requires list_value { scanned 1 list.now 0 ≡ Ok tt }
     ensures { result ≡ table_check list.now }
 {
     let Located::Table {

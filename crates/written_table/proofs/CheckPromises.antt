@@ -4,28 +4,26 @@ use mathlib.Core.Path.{◌≡◌, refl, sym, ◌∙◌, ap, subst}
 use mathlib.Core.Logic.{◌⊎◌, inl, inr, ⊎_elim}
 use mathlib.Core.List.{List}
 use Prim.Native.Nat.{ℕ, zero-le}
-use native.Mathlib.Omega.{arith}
 use lib.ListN.{length}
+use Rattle.std.specs.Prelude.{Result, Ok, Err}
 use Rattle.finite.proofs.Ordinals.{ordinals}
 use Rattle.order.specs.Order.{Ingredient, table, matrix, generator}
 use Rattle.order.specs.Reader.{Parsed, value, refused}
 use Rattle.order.specs.Range.{ingredient_range}
-use Rattle.order.specs.declared.Entries.{Entries}
-use Rattle.order.specs.declared.Entries.TheVariants.{InRange, OutOfRange, Unread}
+use Rattle.order.specs.declared.RangeFault.{RangeFault}
+use Rattle.order.specs.declared.RangeFault.TheVariants.{OutOfRange, Unread}
 use Rattle.order.proofs.Law.{refused_no_value, same_value}
+use Rattle.order.proofs.Answers.{apart}
 use Rattle.order.proofs.InRange.{ingredient_iff}
 use Rattle.counting.specs.Table.{table_of, Even}
 use Rattle.counting.specs.Verdict.{pairs_counted, table_verdict}
 use Rattle.counting.specs.declared.verdict.TableFault.{TableFault}
 use Rattle.counting.specs.declared.verdict.TableFault.TheVariants.{Column, Pair}
-use Rattle.counting.specs.declared.verdict.TableFinding.{TableFinding}
-use Rattle.counting.specs.declared.verdict.TableFinding.TheVariants.{Passes, Fails}
 use Rattle.counting.proofs.TableVerdicts.{table_passes, passes_gap, table_fails, verdict_counted, counted_most}
 use Rattle.sheets.specs.Outcome.{table_refusal}
 use Rattle.sheets.specs.declared.answer.Refusal.{Refusal}
 use Rattle.sheets.specs.declared.answer.Refusal.TheVariants.{Unreadable, EntryOutOfRange}
 use Rattle.question_4.specs.Passing.{passing_of}
-use Rattle.question_4.specs.declared.Passing.TheVariants.{AllPass, Refused}
 use Rattle.written_table.specs.WrittenTable.{read_table, refused_check, verdict_check, range_check, parsed_check, table_check}
 use Rattle.written_table.specs.CheckPromise.{Writes, CheckPromise}
 use Rattle.written_table.specs.declared.TableCheck.{TableCheck}
@@ -33,33 +31,29 @@ use Rattle.written_table.proofs.Readings.{Written, read_table_lem, table_read}
 
 -- ---- the answers that a finding comes to
 
--- A pass is no refusal.
-pass_no_refusal : {why : Refusal} → AllPass ≡ Refused why → ⊥
-pass_no_refusal e = let z : ◌≡◌ {A = ℕ} 0 1 = cc in omega arith
-
-finding_passes : (f : TableFinding) → passing_of (table_refusal 1 f) ≡ AllPass → f ≡ Passes
+finding_passes : (f : Result (Unit {0}) TableFault) → passing_of (table_refusal 1 f) ≡ Ok tt → f ≡ Ok tt
 unfolding passing_of table_refusal
-finding_passes Passes e = refl
-finding_passes (Fails (Column c x n)) e = absurd (pass_no_refusal (sym e))
-finding_passes (Fails (Pair c d x y n)) e = absurd (pass_no_refusal (sym e))
+finding_passes (Ok tt) e = refl
+finding_passes (Err (Column c x n)) e = cc
+finding_passes (Err (Pair c d x y n)) e = cc
 
-passes_answer : (f : TableFinding) → f ≡ Passes → passing_of (table_refusal 1 f) ≡ AllPass
+passes_answer : (f : Result (Unit {0}) TableFault) → f ≡ Ok tt → passing_of (table_refusal 1 f) ≡ Ok tt
 unfolding passing_of table_refusal
 passes_answer f e = rw e
 
 -- Different faults are answered differently.
-finding_fails : (f : TableFinding) (fault : TableFault) → passing_of (table_refusal 1 f) ≡ passing_of (table_refusal 1 (Fails fault)) → f ≡ Fails fault
+finding_fails : (f : Result (Unit {0}) TableFault) (fault : TableFault) → passing_of (table_refusal 1 f) ≡ passing_of (table_refusal 1 (Err fault)) → f ≡ Err fault
 unfolding passing_of table_refusal
-finding_fails Passes (Column c x n) e = absurd (pass_no_refusal e)
-finding_fails Passes (Pair c d x y n) e = absurd (pass_no_refusal e)
-finding_fails (Fails (Column c x n)) (Column c' x' n') e =
+finding_fails (Ok tt) (Column c x n) e = cc
+finding_fails (Ok tt) (Pair c d x y n) e = cc
+finding_fails (Err (Column c x n)) (Column c' x' n') e =
     let one : c ≡ c' = cc in
     let two : x ≡ x' = cc in
     let three : n ≡ n' = cc in
     rw (one, two, three)
-finding_fails (Fails (Column c x n)) (Pair c' d' x' y' n') e = absurd (let z : ◌≡◌ {A = ℕ} 0 1 = cc in omega arith)
-finding_fails (Fails (Pair c d x y n)) (Column c' x' n') e = absurd (let z : ◌≡◌ {A = ℕ} 0 1 = cc in omega arith)
-finding_fails (Fails (Pair c d x y n)) (Pair c' d' x' y' n') e =
+finding_fails (Err (Column c x n)) (Pair c' d' x' y' n') e = cc
+finding_fails (Err (Pair c d x y n)) (Column c' x' n') e = cc
+finding_fails (Err (Pair c d x y n)) (Pair c' d' x' y' n') e =
     let one : c ≡ c' = cc in
     let two : d ≡ d' = cc in
     let three : x ≡ x' = cc in
@@ -68,31 +62,31 @@ finding_fails (Fails (Pair c d x y n)) (Pair c' d' x' y' n') e =
     rw (one, two, three, four, five)
 
 -- So the answer tells what was found.
-finding_same : (f found : TableFinding) → passing_of (table_refusal 1 f) ≡ passing_of (table_refusal 1 found) → f ≡ found
+finding_same : (f found : Result (Unit {0}) TableFault) → passing_of (table_refusal 1 f) ≡ passing_of (table_refusal 1 found) → f ≡ found
 unfolding passing_of table_refusal
-finding_same f Passes e = finding_passes f e
-finding_same f (Fails fault) e = finding_fails f fault e
+finding_same f (Ok tt) e = finding_passes f e
+finding_same f (Err fault) e = finding_fails f fault e
 
 -- Refusals 2 and 3.
 abbrev Unjudged : Refusal → Type 0
 Unjudged why = (place : ℕ) × ((why ≡ Unreadable place) ⊎ (why ≡ EntryOutOfRange place))
 
 -- They are what no finding comes to.
-unreadable_no_finding : (f : TableFinding) (place : ℕ) → passing_of (table_refusal 1 f) ≡ Refused (Unreadable place) → ⊥
+unreadable_no_finding : (f : Result (Unit {0}) TableFault) (place : ℕ) → passing_of (table_refusal 1 f) ≡ Err (Unreadable place) → ⊥
 unfolding passing_of table_refusal
-unreadable_no_finding Passes place e = pass_no_refusal e
-unreadable_no_finding (Fails (Column c x n)) place e = let z : ◌≡◌ {A = ℕ} 0 1 = cc in omega arith
-unreadable_no_finding (Fails (Pair c d x y n)) place e = let z : ◌≡◌ {A = ℕ} 0 1 = cc in omega arith
+unreadable_no_finding (Ok tt) place e = cc
+unreadable_no_finding (Err (Column c x n)) place e = cc
+unreadable_no_finding (Err (Pair c d x y n)) place e = cc
 
-out_no_finding : (f : TableFinding) (place : ℕ) → passing_of (table_refusal 1 f) ≡ Refused (EntryOutOfRange place) → ⊥
+out_no_finding : (f : Result (Unit {0}) TableFault) (place : ℕ) → passing_of (table_refusal 1 f) ≡ Err (EntryOutOfRange place) → ⊥
 unfolding passing_of table_refusal
-out_no_finding Passes place e = pass_no_refusal e
-out_no_finding (Fails (Column c x n)) place e = let z : ◌≡◌ {A = ℕ} 0 1 = cc in omega arith
-out_no_finding (Fails (Pair c d x y n)) place e = let z : ◌≡◌ {A = ℕ} 0 1 = cc in omega arith
+out_no_finding (Ok tt) place e = cc
+out_no_finding (Err (Column c x n)) place e = cc
+out_no_finding (Err (Pair c d x y n)) place e = cc
 
-unjudged_no_finding : (why : Refusal) → Unjudged why → (f : TableFinding) → passing_of (table_refusal 1 f) ≡ Refused why → ⊥
+unjudged_no_finding : (why : Refusal) → Unjudged why → (f : Result (Unit {0}) TableFault) → passing_of (table_refusal 1 f) ≡ Err why → ⊥
 unjudged_no_finding why (place, is) f e =
-    ⊎_elim (λ h. unreadable_no_finding f place (e ∙ ap Refused h)) (λ h. out_no_finding f place (e ∙ ap Refused h)) is
+    ⊎_elim (λ h. unreadable_no_finding f place (e ∙ ap Err h)) (λ h. out_no_finding f place (e ∙ ap Err h)) is
 
 -- ---- the promise, answer by answer
 
@@ -107,8 +101,8 @@ module _ (list : List ℕ) where
   refused_promised why unjudged none_written e =
       record {
         answered = e;
-        passes_when = (λ p. absurd (pass_no_refusal (sym p)), λ v. absurd (none_written _ _ _ v.writes));
-        fails_for = λ fault p. absurd (unjudged_no_finding why unjudged (Fails fault) (sym p));
+        passes_when = (λ p. cc, λ v. absurd (none_written _ _ _ v.writes));
+        fails_for = λ fault p. absurd (unjudged_no_finding why unjudged (Err fault) (sym p));
         uneven_fails = λ w odd. absurd (none_written _ _ _ w);
         gap_passes = λ p. refl;
         gap_none = λ place p. refl;
@@ -164,39 +158,33 @@ module _ (list : List ℕ) where
         Wide m (matrix rows columns p entries) = Unit {0}
         Wide m (generator t s widths entries) = Unit {0}
 
-        named : (Even 2 (table_of entries levels rows) → ⊥) → (f : TableFinding) → (table_verdict (table_of entries levels rows)).finding ≡ f
-            → (fault : TableFault) × (passing_of (table_refusal 1 (table_verdict (table_of entries levels rows)).finding) ≡ passing_of (table_refusal 1 (Fails fault)))
-        named odd Passes e = absurd (odd ((table_passes _).0 e))
-        named odd (Fails fault) e = (fault, ap (λ f. passing_of (table_refusal 1 f)) e)
+        named : (Even 2 (table_of entries levels rows) → ⊥) → (f : Result (Unit {0}) TableFault) → (table_verdict (table_of entries levels rows)).finding ≡ f
+            → (fault : TableFault) × (passing_of (table_refusal 1 (table_verdict (table_of entries levels rows)).finding) ≡ passing_of (table_refusal 1 (Err fault)))
+        named odd (Ok tt) e = absurd (odd ((table_passes _).0 e))
+        named odd (Err fault) e = (fault, ap (λ f. passing_of (table_refusal 1 f)) e)
 
     -- An entry out of range: no table with every entry in range is written.
-    not_in_range : (ingredient_range 3 (table rows levels entries) ≡ InRange → ⊥)
+    not_in_range : (ingredient_range 3 (table rows levels entries) ≡ Ok tt → ⊥)
         → (rows' : ℕ) (levels' entries' : List ℕ) → Writes list rows' levels' entries' → ⊥
-    not_in_range high rows' levels' entries' w = high (only (λ g. ingredient_range 3 g ≡ InRange) w ((ingredient_iff 3 _).1 w.in_range))
+    not_in_range high rows' levels' entries' w = high (only (λ g. ingredient_range 3 g ≡ Ok tt) w ((ingredient_iff 3 _).1 w.in_range))
 
     table_promised : Written list (table rows levels entries) → CheckPromise list (table_check list)
     unfolding table_check
     table_promised read = go (ingredient_range 3 (table rows levels entries)) refl
       where
-        by_range : (x : Entries) → ingredient_range 3 (table rows levels entries) ≡ x → range_check x (table_verdict (table_of entries levels rows)) ≡ table_check list
+        by_range : (x : Result (Unit {0}) RangeFault) → ingredient_range 3 (table rows levels entries) ≡ x → range_check x (table_verdict (table_of entries levels rows)) ≡ table_check list
         by_range x r = ap (λ y. range_check y (table_verdict (table_of entries levels rows))) (sym r) ∙ ap parsed_check (sym e)
 
-        go : (x : Entries) → ingredient_range 3 (table rows levels entries) ≡ x → CheckPromise list (table_check list)
-        go InRange r =
+        go : (x : Result (Unit {0}) RangeFault) → ingredient_range 3 (table rows levels entries) ≡ x → CheckPromise list (table_check list)
+        go (Ok tt) r =
             let w : Writes list rows levels entries = record { short = read.short; limits = read.limits; same = read.same; in_range = (ingredient_iff 3 _).0 r } in
-            subst (CheckPromise list) (by_range InRange r) (verdict_promised w (by_range InRange r))
-        go (OutOfRange place) r =
-            subst (CheckPromise list) (by_range (OutOfRange place) r)
-            (refused_promised (EntryOutOfRange place) (place, inr refl) (not_in_range (λ i. high (sym r ∙ i))) (by_range (OutOfRange place) r))
-          where
-            high : OutOfRange place ≡ InRange → ⊥
-            high h = let z : ◌≡◌ {A = ℕ} 0 1 = cc in omega arith
-        go Unread r =
-            subst (CheckPromise list) (by_range Unread r)
-            (refused_promised (Unreadable 0) (0, inl refl) (not_in_range (λ i. unasked (sym r ∙ i))) (by_range Unread r))
-          where
-            unasked : Unread ≡ InRange → ⊥
-            unasked h = let z : ◌≡◌ {A = ℕ} 0 1 = cc in omega arith
+            subst (CheckPromise list) (by_range (Ok tt) r) (verdict_promised w (by_range (Ok tt) r))
+        go (Err (OutOfRange place)) r =
+            subst (CheckPromise list) (by_range (Err (OutOfRange place)) r)
+            (refused_promised (EntryOutOfRange place) (place, inr refl) (not_in_range (λ i. apart (sym i ∙ r))) (by_range (Err (OutOfRange place)) r))
+        go (Err Unread) r =
+            subst (CheckPromise list) (by_range (Err Unread) r)
+            (refused_promised (Unreadable 0) (0, inl refl) (not_in_range (λ i. apart (sym i ∙ r))) (by_range (Err Unread) r))
 
 -- The answer that the definitions give keeps the promise.
 pub check_promised : (list : List ℕ) → CheckPromise list (table_check list)

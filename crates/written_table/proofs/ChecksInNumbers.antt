@@ -6,57 +6,56 @@ use Prim.Native.Nat.{ℕ}
 use lib.Dec.{lit≤}
 use lib.IntN.{ℤ}
 use lib.ListN.{get_or}
+use Rattle.std.specs.Prelude.{Result, Ok, Err}
 use Rattle.order.specs.Order.{Ingredient, table, matrix, generator, Between}
 use Rattle.order.specs.Reader.{Parsed, value, refused}
 use Rattle.order.specs.Range.{ingredient_range}
-use Rattle.order.specs.declared.Entries.{Entries}
-use Rattle.order.specs.declared.Entries.TheVariants.{InRange, OutOfRange, Unread}
+use Rattle.order.specs.declared.RangeFault.{RangeFault}
+use Rattle.order.specs.declared.RangeFault.TheVariants.{OutOfRange, Unread}
 use Rattle.counting.specs.Table.{table_of}
 use Rattle.counting.specs.Verdict.{table_verdict}
 use Rattle.counting.specs.declared.verdict.TableFault.TheVariants.{Column, Pair}
-use Rattle.counting.specs.declared.verdict.TableFinding.{TableFinding}
-use Rattle.counting.specs.declared.verdict.TableFinding.TheVariants.{Passes, Fails}
 use Rattle.counting.specs.declared.verdict.TableVerdict.{TableVerdict}
+use Rattle.counting.specs.declared.verdict.TableFault.{TableFault}
 use Rattle.sheets.specs.Outcome.{table_refusal}
 use Rattle.sheets.specs.Refusals.{numbered}
 use Rattle.sheets.proofs.Numbers.{number_not_zero}
+use Rattle.sheets.specs.declared.answer.Refusal.{Refusal}
 use Rattle.question_4.specs.Passing.{passing_of}
-use Rattle.question_4.specs.declared.Passing.{Passing}
-use Rattle.question_4.specs.declared.Passing.TheVariants.{AllPass, Refused}
 use Rattle.written_table.specs.WrittenTable.{read_table, range_check, ingredient_check, parsed_check, table_check}
 use Rattle.written_table.specs.CheckPromise.{CheckPromise}
 use Rattle.written_table.specs.CheckInNumbers.{check_numbers, CheckInNumbers}
 use Rattle.written_table.specs.declared.TableCheck.{TableCheck}
 use Rattle.written_table.proofs.CheckPromises.{check_promised}
 
-abbrev first_of : Passing → ℕ
+abbrev first_of : Result (Unit {0}) Refusal → ℕ
 first_of p = get_or (check_numbers p) 0 0
 
 -- No refusal has the number 0.
-zero_passes : (p : Passing) → first_of p ≡ 0 → p ≡ AllPass
+zero_passes : (p : Result (Unit {0}) Refusal) → first_of p ≡ 0 → p ≡ Ok tt
 unfolding check_numbers
-zero_passes AllPass e = refl
-zero_passes (Refused why) e = absurd (number_not_zero why e)
+zero_passes (Ok tt) e = refl
+zero_passes (Err why) e = absurd (number_not_zero why e)
 
-passes_zero : (p : Passing) → p ≡ AllPass → first_of p ≡ 0
+passes_zero : (p : Result (Unit {0}) Refusal) → p ≡ Ok tt → first_of p ≡ 0
 unfolding check_numbers
 passes_zero p e = ap first_of e
 
 -- The number of an answer that is no pass, question by question.
-abbrev Numbered : Passing → Type 0
+abbrev Numbered : Result (Unit {0}) Refusal → Type 0
 Numbered p = (first_of p ≡ 0 → ⊥) → Between 2 5 (first_of p)
 
-finding_numbered : (f : TableFinding) → Numbered (passing_of (table_refusal 1 f))
+finding_numbered : (f : Result (Unit {0}) TableFault) → Numbered (passing_of (table_refusal 1 f))
 unfolding check_numbers numbered passing_of table_refusal
-finding_numbered Passes n = absurd (n refl)
-finding_numbered (Fails (Column c x times)) n = (lit≤ tt, lit≤ tt)
-finding_numbered (Fails (Pair c d x y times)) n = (lit≤ tt, lit≤ tt)
+finding_numbered (Ok tt) n = absurd (n refl)
+finding_numbered (Err (Column c x times)) n = (lit≤ tt, lit≤ tt)
+finding_numbered (Err (Pair c d x y times)) n = (lit≤ tt, lit≤ tt)
 
-range_numbered : (x : Entries) (verdict : TableVerdict) → Numbered (range_check x verdict).passing
+range_numbered : (x : Result (Unit {0}) RangeFault) (verdict : TableVerdict) → Numbered (range_check x verdict).passing
 unfolding check_numbers numbered
-range_numbered InRange verdict = finding_numbered verdict.finding
-range_numbered (OutOfRange place) verdict = λ n. (lit≤ tt, lit≤ tt)
-range_numbered Unread verdict = λ n. (lit≤ tt, lit≤ tt)
+range_numbered (Ok tt) verdict = finding_numbered verdict.finding
+range_numbered (Err (OutOfRange place)) verdict = λ n. (lit≤ tt, lit≤ tt)
+range_numbered (Err Unread) verdict = λ n. (lit≤ tt, lit≤ tt)
 
 ingredient_numbered : (g : Ingredient) → Numbered (ingredient_check g).passing
 unfolding check_numbers numbered

@@ -1,17 +1,16 @@
 -- What the exported check of a table promises: the promise of the check, with the answer as seven numbers, a signed one, the gap, and the number of pairs of
 -- columns that were counted (document 02, K5 and K8).
-use Rattle.std.specs.Prelude.{◌≡◌, ◌↔◌, List, [], ◌∷◌, ℕ, ℤ, get_or}
+use Rattle.std.specs.Prelude.{◌≡◌, ◌↔◌, List, [], ◌∷◌, ℕ, ℤ, get_or, Result, Ok, Err}
 use Rattle.order.specs.Order.{Between}
 use Rattle.sheets.specs.Refusals.{numbered}
-use Rattle.question_4.specs.declared.Passing.{Passing}
-use Rattle.question_4.specs.declared.Passing.TheVariants.{AllPass, Refused}
+use Rattle.sheets.specs.declared.answer.Refusal.{Refusal}
 use Rattle.written_table.specs.WrittenTable.{table_check}
 use Rattle.written_table.specs.CheckPromise.{WritesEven, CheckPromise}
 
 -- The seven numbers of an answer: zeros for a table that passes, or 01's number of the refusal and its six details.
-unfoldable pub check_numbers : Passing → List ℕ
-check_numbers AllPass = 0 ∷ 0 ∷ 0 ∷ 0 ∷ 0 ∷ 0 ∷ 0 ∷ []
-check_numbers (Refused why) = numbered why
+unfoldable pub check_numbers : Result (Unit {0}) Refusal → List ℕ
+check_numbers (Ok tt) = 0 ∷ 0 ∷ 0 ∷ 0 ∷ 0 ∷ 0 ∷ 0 ∷ []
+check_numbers (Err why) = numbered why
 
 -- The promise, for a list, the number that is returned, the seven numbers, the signed one, and the pairs of columns.
 pub record CheckInNumbers (list : List ℕ) (number : ℕ) (numbers : List ℕ) (gap : ℤ) (pairs : ℕ) : Type 0 where

@@ -1,12 +1,12 @@
 -- A table that is handed in by itself: document 02, K5 and K8. It is written as an ingredient of an order is (01, "The order"), kind 1, rows, columns, level
 -- counts and entries, with nothing after them; and the questions 2, 3 and 4 are asked of it as of ingredient 1.
-use Rattle.std.specs.Prelude.{List, ℕ, ltb, eqb, pos, length, get_or}
+use Rattle.std.specs.Prelude.{List, ℕ, ltb, eqb, pos, length, get_or, Err, Result, Ok}
 use Rattle.order.specs.Order.{Ingredient, table, matrix, generator}
 use Rattle.order.specs.Reader.{Parsed, value, refused, when, ◌>>=◌}
 use Rattle.order.specs.Grammar.{read_ingredient, at_end}
 use Rattle.order.specs.Range.{ingredient_range}
-use Rattle.order.specs.declared.Entries.{Entries}
-use Rattle.order.specs.declared.Entries.TheVariants.{InRange, OutOfRange, Unread}
+use Rattle.order.specs.declared.RangeFault.{RangeFault}
+use Rattle.order.specs.declared.RangeFault.TheVariants.{OutOfRange, Unread}
 use Rattle.counting.specs.Table.{table_of}
 use Rattle.counting.specs.Verdict.{table_verdict}
 use Rattle.counting.specs.declared.verdict.TableVerdict.{TableVerdict}
@@ -14,7 +14,6 @@ use Rattle.sheets.specs.Outcome.{table_refusal}
 use Rattle.sheets.specs.declared.answer.Refusal.{Refusal}
 use Rattle.sheets.specs.declared.answer.Refusal.TheVariants.{Unreadable, EntryOutOfRange}
 use Rattle.question_4.specs.Passing.{passing_of}
-use Rattle.question_4.specs.declared.Passing.TheVariants.{Refused}
 use Rattle.written_table.specs.declared.TableCheck.{TableCheck}
 
 -- Question 2: the table that the list writes, or the place where the list is refused. A list over 32,768 numbers is refused unread, and one whose first
@@ -26,17 +25,17 @@ read_table list =
 
 -- By questions 2 and 3 there is no pair of levels to tell the gap of, and no pair of columns is counted.
 abbrev pub refused_check : Refusal → TableCheck
-refused_check why = record { passing = Refused why; gap = pos 0; pairs = 0 }
+refused_check why = record { passing = Err why; gap = pos 0; pairs = 0 }
 
 -- Question 4: the verdict on ingredient 1, with the gap and the pairs of columns that were counted beside it.
 abbrev pub verdict_check : TableVerdict → TableCheck
 verdict_check verdict = record { passing = passing_of (table_refusal 1 verdict.finding); gap = verdict.gap; pairs = verdict.pairs }
 
 -- Question 3, and then the verdict. The question is asked of all that was read, so the last case does not come up.
-abbrev pub range_check : Entries → TableVerdict → TableCheck
-range_check InRange verdict = verdict_check verdict
-range_check (OutOfRange place) verdict = refused_check (EntryOutOfRange place)
-range_check Unread verdict = refused_check (Unreadable 0)
+abbrev pub range_check : Result (Unit {0}) RangeFault → TableVerdict → TableCheck
+range_check (Ok asked) verdict = verdict_check verdict
+range_check (Err (OutOfRange place)) verdict = refused_check (EntryOutOfRange place)
+range_check (Err Unread) verdict = refused_check (Unreadable 0)
 
 -- What was read, whose level counts stand at place 3. As its first number is 1, it is a table.
 abbrev pub ingredient_check : Ingredient → TableCheck

@@ -2,12 +2,12 @@
 // and with the laws that the code rests on (proofs/).
 #![tactic(auto)]
 
-use question_4::Passing;
+use sheets::answer::Refusal;
 
 // Whether the table passes, or why not; the signed gap of the pair that is named, 0 where none is; and how many pairs of columns were counted.
 #[derive(Clone, Copy)]
 pub struct TableCheck {
-    pub passing: Passing,
+    pub passing: Result<(), Refusal>,
     pub gap: i64,
     pub pairs: usize,
 }

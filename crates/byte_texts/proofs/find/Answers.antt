@@ -1,15 +1,14 @@
--- `find` meets its contract. The invariant: the first place is as many places on as the search has come, and then the first in the rest.
+-- `find` meets its contract: std's first place is the contract's.
+use lib.Dec.{eqb}
 use borrow.Author.Rules.{rules}
-use Rattle.byte_texts.proofs.Comparing.{found_here, found_later, found_nowhere}
+use Rattle.std.proofs.Common.{tests}
+use Rattle.std.proofs.lemmas.Iterator.{YieldsList-from_slice}
+use Rattle.std.proofs.lemmas.Iterator.Search.{position_from_yields_List}
+use Rattle.byte_texts.proofs.Comparing.{first_position}
 use Rattle.byte_texts.proofs.find.Goals as goal
 
-pub returns-then-bytes-at : goal.returns-then-bytes-at
-returns-then-bytes-at c =
-    found_here _ _ _ c.loop-at.invariant.1 c.loop-at-test.true c.if-bytes-at.true
-
-pub loop-at-preserved : goal.loop-at-preserved
-loop-at-preserved c =
-    (search rules, found_later _ _ _ c.loop-at.invariant.1 c.loop-at-test.true c.if-bytes-at.false)
-
 pub returns : goal.returns
-returns c = found_nowhere _ _ _ c.loop-at.invariant.1 c.loop-at.invariant.0 c.loop-at-test.false
+returns c =
+    first_position c.args.byte c.args.bytes.now
+    (position_from_yields_List (λ b. eqb b c.args.byte) _ _ c.position.result c.position.ensures.ran (YieldsList-from_slice _ c.iter.ensures.rest) (λ x b q k. search (rules, tests)))
+    c.unwrap_or.ensures

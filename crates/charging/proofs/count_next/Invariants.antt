@@ -1,11 +1,6 @@
 -- `charging::count_next` meets its contract. The invariant: the counts of the columns before c are raised, and the others are as they were.
-use Prim.Native.Nat.{◌-◌}
-use lib.ListN.{length}
 use Rattle.charging.proofs.Changes.{Raising}
 use Rattle.charging.proofs.count_next.Given as goal
 
 abbrev pub invariant-loop-c : goal.invariant-loop-c
 invariant-loop-c l = Raising l.table l.start l.initial.counts l.counts l.c
-
-abbrev pub decreases-loop-c : goal.decreases-loop-c
-decreases-loop-c l = length l.initial.counts - l.c

@@ -3,10 +3,10 @@
 use Rattle.check_report.specs.CheckReport.{passing_line}
 use Rattle.check_report.proofs.put_passing.Goals as goal
 
-pub returns-in-AllPass : goal.returns-in-AllPass
+pub returns-in-Ok : goal.returns-in-Ok
 unfolding passing_line
-returns-in-AllPass c = rw c.in-AllPass.is c.put_bytes.ensures
+returns-in-Ok c = rw c.in-Ok.is c.put_bytes.ensures
 
-pub returns-in-Refused : goal.returns-in-Refused
+pub returns-in-Err : goal.returns-in-Err
 unfolding passing_line
-returns-in-Refused c = rw c.in-Refused.is c.put_refused.ensures
+returns-in-Err c = rw c.in-Err.is c.put_refused.ensures

@@ -7,10 +7,10 @@ use Rattle.checker.proofs.put_scanned.Goals as goal
 
 pub slice_bounds-put_written-end : goal.slice_bounds-put_written-end
 slice_bounds-put_written-end c =
-    sym (length-take-le _ _ (ended_room c.requires.ended c.in-Numbers.is (omega arith)))
+    sym (length-take-le _ _ (ended_room c.requires.ended c.in-Ok.is (omega arith)))
 
-pub returns-in-Numbers : goal.returns-in-Numbers
-returns-in-Numbers c = rw c.in-Numbers.is c.put_written.ensures
+pub returns-in-Ok : goal.returns-in-Ok
+returns-in-Ok c = rw c.in-Ok.is c.put_written.ensures
 
-pub returns-in-Refused : goal.returns-in-Refused
-returns-in-Refused c = rw c.in-Refused.is c.put_unreadable.ensures
+pub returns-in-Err : goal.returns-in-Err
+returns-in-Err c = rw c.in-Err.is c.put_unreadable.ensures

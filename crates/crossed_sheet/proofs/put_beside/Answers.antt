@@ -1,10 +1,8 @@
 -- `crossed_sheet::put_beside` meets its contract: the next sheet is built in the scratch, its level counts beside it, and both are settled.
-use mathlib.Core.Path.{sym}
 use mathlib.Core.List.{List}
 use Prim.Native.Nat.{ℕ, ◌≤◌}
 use borrow.Author.Rules.{rules}
 use lib.Seq.{length-take-le}
-use Rattle.buffers.proofs.Puts.{put_part}
 use Rattle.counting.specs.Table.{Table}
 use Rattle.step_tables.specs.Sheet.{SmallEnough}
 use Rattle.layout.specs.Bytes.{Holds, Zeros, LongEnough, sheet_in}
@@ -22,11 +20,6 @@ handed : {M : ℕ} {H : Table} {size : Size} {table levels scratch : List ℕ}
 handed room sheet small =
     record { long = room.0; clear = room.1; holds = sheet.0; columns_most = sheet.1; small = small }
 
-pub slice_bounds-put_crossed_levels-end-2 : goal.slice_bounds-put_crossed_levels-end-2
-slice_bounds-put_crossed_levels-end-2 c =
-    let given = handed c.requires.long_enough c.requires.holds c.requires.small_enough in
-    sym (length-take-le _ _ (levels_few given))
-
 pub put_crossed_levels-count-requires-clause-h_in_bounds : goal.put_crossed_levels-count-requires-clause-h_in_bounds
 put_crossed_levels-count-requires-clause-h_in_bounds c =
     let given = handed c.requires.long_enough c.requires.holds c.requires.small_enough in
@@ -43,9 +36,6 @@ put_crossed_runs-built-requires-clause-h_in_bounds c =
 pub overflow_mul-runs : goal.overflow_mul-runs
 overflow_mul-runs c =
     let room = cells_used (handed c.requires.long_enough c.requires.holds c.requires.small_enough) in search rules
-
-pub slice_bounds-settle-end : goal.slice_bounds-settle-end
-slice_bounds-settle-end c = put_part c.put_crossed_levels-count.ensures
 
 pub settle-requires : goal.settle-requires
 settle-requires c =

@@ -1,7 +1,5 @@
--- `crossed_sheet::put_crossed_runs` meets its contract. The invariant: the first runs are put, up to `place`, and the next one starts at `start`.
-use mathlib.Core.Path.{◌≡◌}
+-- `crossed_sheet::put_crossed_runs` meets its contract. The invariant: the first runs are put, up to `place`.
 use mathlib.Core.List.{flat_map}
-use Prim.Native.Nat.{◌-◌, ◌*◌, ◌≤◌}
 use Rattle.finite.specs.Lists.{from}
 use Rattle.buffers.specs.Put.{Put}
 use Rattle.ingredients.specs.Named.{table_in}
@@ -10,7 +8,4 @@ use Rattle.crossed_sheet.proofs.put_crossed_runs.Given as goal
 
 abbrev pub invariant-loop-run : goal.invariant-loop-run
 invariant-loop-run l =
-    (l.run ≤ l.runs) × (l.start ≡ l.run * l.width) × Put l.initial.buf 0 (flat_map (beside_run l.rows (table_in l.list l.h) l.table l.width) (from 0 l.run)) l.buf l.place
-
-abbrev pub decreases-loop-run : goal.decreases-loop-run
-decreases-loop-run l = l.runs - l.run
+    Put l.initial.buf 0 (flat_map (beside_run l.rows (table_in l.list l.h) l.table l.width) (from 0 l.run)) l.buf l.place

@@ -22,8 +22,8 @@ bounds-list-at c = omega (arith, (cross_operands_known c.requires.ready.readable
 pub overflow_add-end : goal.overflow_add-end
 overflow_add-end c = omega (arith, (cross_operands_known c.requires.ready.readable c.requires.stands).1)
 
-pub overflow_add-end-in-Named : goal.overflow_add-end-in-Named
-overflow_add-end-in-Named c = omega (arith, (cross_operands_known c.requires.ready.readable c.requires.stands).1)
+pub overflow_add-end-2 : goal.overflow_add-end-2
+overflow_add-end-2 c = omega (arith, (cross_operands_known c.requires.ready.readable c.requires.stands).1)
 
 pub offset_bounds-list-end : goal.offset_bounds-list-end
 offset_bounds-list-end c = omega (arith, (cross_operands_known c.requires.ready.readable c.requires.stands).1)
@@ -34,7 +34,7 @@ bounds-list-end c = (cross_operands_known c.requires.ready.readable c.requires.s
 pub returns-then-is_missing-clause-left : goal.returns-then-is_missing-clause-left
 returns-then-is_missing-clause-left c =
     let operands = cross_operands_known c.requires.ready.readable c.requires.stands in
-    let named = summands_named c.requires.ready.readable operands.0 (sym c.in-Named.is ∙ c.summands.ensures) in
+    let named = summands_named c.requires.ready.readable operands.0 (sym c.in-Some.is ∙ c.summands.ensures) in
     left_one_sided c.requires.ready.readable c.args.at c.args.number (sheet_in c.args.table.now c.args.levels.now c.args.size) _ _ named operands.2
     c.table_named-h.ensures (sym c.is_missing.ensures ∙ c.if-is_missing.true)
 
@@ -47,28 +47,28 @@ slice_bounds-fitting_cross-end c = omega (arith, (cross_operands_known c.require
 pub fitting_cross-requires-clause-ds_nonzero : goal.fitting_cross-requires-clause-ds_nonzero
 fitting_cross-requires-clause-ds_nonzero c =
     let operands = cross_operands_known c.requires.ready.readable c.requires.stands in
-    let named = summands_named c.requires.ready.readable operands.0 (sym c.in-Named.is ∙ c.summands.ensures) in
+    let named = summands_named c.requires.ready.readable operands.0 (sym c.in-Some.is ∙ c.summands.ensures) in
     rw part_same (named.some_matrices, named.each)
 
 pub fitting_cross-requires-clause-legible : goal.fitting_cross-requires-clause-legible
 fitting_cross-requires-clause-legible c =
     let operands = cross_operands_known c.requires.ready.readable c.requires.stands in
-    let named = summands_named c.requires.ready.readable operands.0 (sym c.in-Named.is ∙ c.summands.ensures) in
+    let named = summands_named c.requires.ready.readable operands.0 (sym c.in-Some.is ∙ c.summands.ensures) in
     (named.legible, named.narrow)
 
 pub fitting_cross-requires-clause-legible_2 : goal.fitting_cross-requires-clause-legible_2
 fitting_cross-requires-clause-legible_2 c = rw c.table_named-h.ensures (named_known c.requires.ready.readable _)
 
-pub returns-in-Missing-clause-left : goal.returns-in-Missing-clause-left
-returns-in-Missing-clause-left c =
+pub returns-in_default-clause-left : goal.returns-in_default-clause-left
+returns-in_default-clause-left c =
     let operands = cross_operands_known c.requires.ready.readable c.requires.stands in
     left_unnamed c.requires.ready.readable c.args.at c.args.number (sheet_in c.args.table.now c.args.levels.now c.args.size) _ _ operands.0
-    (sym c.in-Missing.is ∙ c.summands.ensures)
+    (sym c.in_default.is ∙ c.summands.ensures)
 
-pub returns-else-is_missing-clause-left : goal.returns-else-is_missing-clause-left
-returns-else-is_missing-clause-left c =
+pub returns-clause-left : goal.returns-clause-left
+returns-clause-left c =
     let operands = cross_operands_known c.requires.ready.readable c.requires.stands in
-    let named = summands_named c.requires.ready.readable operands.0 (sym c.in-Named.is ∙ c.summands.ensures) in
+    let named = summands_named c.requires.ready.readable operands.0 (sym c.in-Some.is ∙ c.summands.ensures) in
     let made = c.fitting_cross in
     left_named c.requires.ready.readable c.args.at c.args.number (sheet_in c.args.table.now c.args.levels.now c.args.size) _ _ named operands.2
     c.table_named-h.ensures (sym c.is_missing.ensures ∙ c.if-is_missing.false) made.result _ _ (rw part_same at made.ensures.left)

@@ -70,22 +70,22 @@ sized_cross-requires-clause-legible c =
     let fit = sym c.parts_fit.ensures.value ∙ c.if-not-parts_fit.false in
     (c.requires.legible.0, adjoins_rows _ _ _ (adjoined_fits _ (matrices_at c.args.list.now c.args.ds.now) _ _ fit), c.requires.legible.1)
 
-pub returns-in-Uneven-clause-left : goal.returns-in-Uneven-clause-left
+pub returns-in-Some-clause-left : goal.returns-in-Some-clause-left
 unfolding sheet_in table_of
-returns-in-Uneven-clause-left c =
+returns-in-Some-clause-left c =
     let a = c.args in
     left_uneven a.ds.now (matrices_at a.list.now a.ds.now) (some_table a.list.now a.k) (table_in a.list.now a.h) (sheet_in a.table.now a.levels.now a.size) _
     (equal_rows _ _ _ c.matrix_named-first.ensures c.requires.ds_nonzero.0) a.number _ _ (sym c.if-not-parts_fit.false ∙ c.parts_fit.ensures.value)
-    (sym c.run_count.ensures ∙ c.if-run_count-size.false) (sym c.in-Uneven.is ∙ c.first_uneven.ensures)
+    (sym c.run_count.ensures ∙ c.if-run_count-size.false) (sym c.in-Some.is ∙ c.first_uneven.ensures)
 
-pub returns-in-Even-clause-left : goal.returns-in-Even-clause-left
+pub returns-in-None-clause-left : goal.returns-in-None-clause-left
 unfolding sheet_in table_of
-returns-in-Even-clause-left c =
+returns-in-None-clause-left c =
     let a = c.args in
     let rows = equal_rows _ _ _ c.matrix_named-first.ensures c.requires.ds_nonzero.0 in
     let served = c.parts_fit.ensures.serves c.if-not-parts_fit.false in
     let made = c.sized_cross in
     left_even a.ds.now (matrices_at a.list.now a.ds.now) (some_table a.list.now a.k) (table_in a.list.now a.h) (sheet_in a.table.now a.levels.now a.size) _
     rows a.number _ _ (sym c.if-not-parts_fit.false ∙ c.parts_fit.ensures.value)
-    (sym c.run_count.ensures ∙ c.if-run_count-size.false) (sym c.in-Even.is ∙ c.first_uneven.ensures) made.result _ _
+    (sym c.run_count.ensures ∙ c.if-run_count-size.false) (sym c.in-None.is ∙ c.first_uneven.ensures) made.result _ _
     (meets_left served rows a.k (table_in a.list.now a.h) a.table.now (take a.size.columns a.levels.now) a.size.runs a.number _ _ made.result _ _ made.ensures.left)

@@ -1,5 +1,4 @@
 -- The cycle of calls {put_number} meets its contract: one digit, or the digits of the tenth and then the last one.
-use mathlib.Core.Path.{◌∙◌}
 use native.Mathlib.Omega.{arith}
 use borrow.Author.Rules.{rules}
 use Rattle.buffers.proofs.Puts.{put_join}

@@ -1,10 +1,9 @@
 -- `combination_code` meets its contract: Horner's rule over the rows so far.
 -- Assumes nothing.
-use mathlib.Core.Path.{refl, sym}
-use native.Mathlib.Nat.{zero-mul, le_antisymm}
+use mathlib.Core.Path.{refl}
+use native.Mathlib.Nat.{le_antisymm}
 use native.Mathlib.Numerals.{add-one}
 use Rattle.finite.specs.Digits.{horner}
-use Rattle.finite.proofs.Fits.{run_more}
 use borrow.Author.Rules.{rules}
 use Rattle.combining.specs.Combining.{combination_code}
 use Rattle.combining.proofs.Combinings.{block_elements}
@@ -12,22 +11,20 @@ use Rattle.distinct_combinations.proofs.combination_code.Goals as goal
 
 pub loop-i-init : goal.loop-i-init
 unfolding horner
-loop-i-init c = (search rules, sym (zero-mul _), search rules, refl)
+loop-i-init c = (search rules, refl)
 
 pub row_combination-element-requires-clause-elements_at : goal.row_combination-element-requires-clause-elements_at
 row_combination-element-requires-clause-elements_at c =
-    let l = c.loop-i in rw l.invariant.1 (block_elements c.requires l.i _ _ c.loop-i-test.true c.requires.one_in)
+    block_elements c.requires c.loop-i.i _ _ c.loop-i-test.true c.requires.one_in
 
 pub loop-i-preserved : goal.loop-i-preserved
 unfolding horner
 loop-i-preserved c =
     let l = c.loop-i in (
       search rules,
-      rw l.invariant.1 (sym (run_more l.i _)),
-      search rules,
-      rw (add-one l.i, ← l.invariant.3, ← l.invariant.1, c.row_combination-element.ensures),
+      rw (add-one l.i, ← l.invariant.1, c.row_combination-element.ensures),
     )
 
 pub returns : goal.returns
 unfolding combination_code
-returns c = λ small. rw (le_antisymm c.loop-i-test.false c.loop-i.invariant.0) c.loop-i.invariant.3
+returns c = λ small. rw (le_antisymm c.loop-i-test.false (c.loop-i.auto.i-end)) c.loop-i.invariant.1

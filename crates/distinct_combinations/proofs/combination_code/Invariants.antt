@@ -1,17 +1,12 @@
 -- `combination_code` meets its contract: Horner's rule over the rows so far.
 -- Assumes nothing.
 use mathlib.Core.Path.{◌≡◌}
-use Prim.Native.Nat.{◌-◌, ◌*◌, ◌≤◌, ◌<◌}
+use Prim.Native.Nat.{◌*◌, ◌<◌}
 use Rattle.finite.specs.Digits.{horner}
 use Rattle.combining.specs.Combining.{no_block, row_combination}
 use Rattle.distinct_combinations.proofs.combination_code.Given as goal
 
 abbrev pub invariant-loop-i : goal.invariant-loop-i
 invariant-loop-i l =
-    (l.i ≤ l.t)
-    × (l.start ≡ l.i * l.row)
-    × (l.code < 512)
+    (l.code < 512)
     × (l.code ≡ horner l.s (λ r. row_combination l.entries (r * l.row) l.s l.block no_block l.coefficients) l.i)
-
-abbrev pub decreases-loop-i : goal.decreases-loop-i
-decreases-loop-i l = l.t - l.i

@@ -11,6 +11,3 @@ invariant-loop-at l =
     × (l.at ≤ l.end)
     × (l.sum < l.s)
     × (record { rest = l.rest; sum = l.sum } ≡ combined l.s l.entries l.at l.end (record { rest = l.initial.rest; sum = l.initial.sum }))
-
-abbrev pub decreases-loop-at : goal.decreases-loop-at
-decreases-loop-at l = l.at

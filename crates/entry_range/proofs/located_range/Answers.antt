@@ -62,7 +62,3 @@ returns-in-Matrix c = rw c.in-Matrix.is c.first_not_below.ensures
 pub returns-in-Generator : goal.returns-in-Generator
 unfolding located_range
 returns-in-Generator c = rw c.in-Generator.is c.first_not_below-in-Generator.ensures
-
-pub returns-in-Missing : goal.returns-in-Missing
-unfolding located_range
-returns-in-Missing c = rw c.in-Missing.is

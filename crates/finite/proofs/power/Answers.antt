@@ -10,5 +10,5 @@ pub overflow_mul-product : goal.overflow_mul-product
 overflow_mul-product c =
     let l = c.loop-i in
     let s = c.args.s in
-    let next : l.product * s ≡ s ^ suc l.i = rw l.invariant.1 (sym (pow-suc s l.i)) in
+    let next : l.product * s ≡ s ^ suc l._i = rw l.invariant (sym (pow-suc s l._i)) in
     record { fits = rw next (lt_of_le_of_lt (le_trans (pow-le-pow_right c.requires.0 c.loop-i-test.true) c.requires.1) (lit< tt)) }

@@ -1,12 +1,8 @@
 -- `farthest_off` meets its contract: what is in hand is the farthest of the values so far.
 use mathlib.Core.Path.{◌≡◌}
-use Prim.Native.Nat.{◌-◌, ◌≤◌}
 use lib.ListN.{get_or}
 use Rattle.gaps.proofs.Farthest.{farthest_below}
 use Rattle.gaps.proofs.farthest_off.Given as goal
 
 abbrev pub invariant-loop-value : goal.invariant-loop-value
-invariant-loop-value l = (l.value ≤ l.n) × (l.farthest ≡ farthest_below l.n l.runs (λ v. get_or l.counters v 0) l.value)
-
-abbrev pub decreases-loop-value : goal.decreases-loop-value
-decreases-loop-value l = l.n - l.value
+invariant-loop-value l = l.farthest ≡ farthest_below l.n l.runs (λ v. get_or l.counters v 0) l.value

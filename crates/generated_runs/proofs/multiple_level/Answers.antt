@@ -1,115 +1,77 @@
 -- `multiple_level` meets its contract: the level so far is that of the columns so far, which stays below 64.
 -- Assumes nothing.
 use mathlib.Core.Path.{◌≡◌, refl, sym, ◌∙◌, ap}
+use mathlib.Core.List.{List}
 use Prim.Native.Nat.{ℕ, ◌+◌, ◌*◌, ◌<◌}
-use native.Mathlib.Nat.{le_antisymm, le_refl}
 use native.Mathlib.Omega.{arith}
-use borrow.Author.Rules.{rules}
-use lib.ListN.{get_or}
+use lib.ListN.{length, get_or}
 use Rattle.finite.specs.Digits.{numeral}
 use Rattle.finite.specs.Lists.{from}
-use Rattle.finite.proofs.Fits.{run_end}
 use Rattle.galois.specs.Arithmetic.{field_product}
 use Rattle.step_tables.specs.Field.{values}
+use Rattle.generated_runs.specs.FieldPlaces.{FieldStands, ColumnsIn}
 use Rattle.generated_runs.specs.LevelSums.{single}
-use Rattle.generated_runs.proofs.FieldPlaces.{column_value, element_below, single_value, level_more, level_small}
+use Rattle.generated_runs.specs.declared.GeneratorAt.{GeneratorAt}
+use Rattle.generated_runs.proofs.FieldPlaces.{slice_of, slice_at, slice_inside, element_place, column_value, level_at, element_below, single_value, level_more, level_small}
 use Rattle.generated_runs.proofs.multiple_level.Goals as goal
 
--- the element of the row in the next column
-same_place : (e r column i : ℕ) → e + r + column + i ≡ e + r + (column + i)
-same_place e r column i = omega arith
+-- the element in the column in hand
+module _ {list : List ℕ} {g : GeneratorAt} (known : FieldStands list g) {row digit : ℕ} (in_rows : (row < g.t) × (digit < g.s)) {column width : ℕ} (columns : ColumnsIn g column width) where
+  abbrev elements : List ℕ
+  elements = slice_of list (g.entries_at + row * g.width + column) width
 
-pub overflow_mul-start : goal.overflow_mul-start
-overflow_mul-start c =
-    let k = c.requires.field_stands in
-    omega (arith, run_end _ _ c.requires.row_lt_t.0 (le_refl (c.args.g.t * c.args.g.width)), k.entries_in, k.short)
+  module _ {i : ℕ} (taken : i < length elements) where
+    inside : i < width
+    inside = slice_inside list _ width taken
 
-pub overflow_add-start : goal.overflow_add-start
-overflow_add-start c =
-    let k = c.requires.field_stands in
-    let args = c.args in
-    omega (arith, run_end _ _ c.requires.row_lt_t.0 (le_refl (args.g.t * args.g.width)), k.entries_in, k.short)
+    next_column : column + i < g.width
+    next_column = omega (arith, inside, columns.within)
 
-pub loop-i-init : goal.loop-i-init
+    element_is : get_or elements i 0 ≡ get_or list (element_place g row (column + i)) 0
+    element_is = slice_at list _ width i inside ∙ ap (λ (place : ℕ). get_or list place 0) (omega arith)
+
+    element_small : get_or elements i 0 < g.s
+    element_small = rw element_is (element_below known row (column + i) in_rows.0 next_column)
+
+    product_is : field_product g.s digit (get_or elements i 0) ≡ column_value list g (single g row digit) (column + i)
+    product_is = rw element_is (sym (single_value known row digit (column + i) in_rows.0 in_rows.1 next_column))
+
+    level_fits : level_at list g (single g row digit) column i * g.s + column_value list g (single g row digit) (column + i) < 64
+    level_fits = level_small known (single g row digit) columns i inside
+
+pub loop-entry-init : goal.loop-entry-init
 unfolding numeral values from
-loop-i-init c = (search rules, refl)
+loop-entry-init c = refl
 
-pub returns : goal.returns
-returns c = rw (le_antisymm c.loop-i-test.false c.loop-i.invariant.0) c.loop-i.invariant.1
+pub overflow_cast-entry : goal.overflow_cast-entry
+overflow_cast-entry c =
+    let pre = c.requires in
+    omega (arith, element_small pre.field_stands pre.row_lt_t pre.columns_in c.loop-entry-test.true, pre.field_stands.size_most)
 
-pub overflow_cast-list : goal.overflow_cast-list
-overflow_cast-list c =
-    let next_below : get_or c.args.list.now (c.args.g.entries_at + c.args.row * c.args.g.width + c.args.column + c.loop-i.i) 0
-    < c.args.g.s =
-    let next_column : c.args.column + c.loop-i.i < c.args.g.width =
-    omega (arith, c.requires.columns_in.within, c.loop-i-test.true)
-    in
+pub product-requires : goal.product-requires
+product-requires c =
     let pre = c.requires in
-    let args = c.args in
-    rw (same_place args.g.entries_at (args.row * args.g.width) args.column c.loop-i.i)
-    (element_below pre.field_stands args.row (args.column + c.loop-i.i) pre.row_lt_t.0 next_column)
-    in
-    omega (arith, next_below, c.requires.field_stands.size_most)
-
-pub product-product-requires : goal.product-product-requires
-product-product-requires c =
-    let next_below : get_or c.args.list.now (c.args.g.entries_at + c.args.row * c.args.g.width + c.args.column + c.loop-i.i) 0
-    < c.args.g.s =
-    let next_column : c.args.column + c.loop-i.i < c.args.g.width =
-    omega (arith, c.requires.columns_in.within, c.loop-i-test.true)
-    in
-    let pre = c.requires in
-    let args = c.args in
-    rw (same_place args.g.entries_at (args.row * args.g.width) args.column c.loop-i.i)
-    (element_below pre.field_stands args.row (args.column + c.loop-i.i) pre.row_lt_t.0 next_column)
-    in
-    let pre = c.requires in
-    record { size = pre.field_stands.size; first = pre.row_lt_t.1; second = next_below }
+    record {
+      size = pre.field_stands.size;
+      first = pre.row_lt_t.1;
+      second = element_small pre.field_stands pre.row_lt_t pre.columns_in c.loop-entry-test.true;
+    }
 
 pub overflow_mul-level : goal.overflow_mul-level
 overflow_mul-level c =
     let pre = c.requires in
-    let args = c.args in
-    let l = c.loop-i in
-    rw l.invariant.1 (omega (arith, level_small pre.field_stands (single args.g args.row args.digit) pre.columns_in l.i c.loop-i-test.true))
+    rw c.loop-entry.invariant (omega (arith, level_fits pre.field_stands pre.row_lt_t pre.columns_in c.loop-entry-test.true))
 
 pub overflow_add-level : goal.overflow_add-level
 overflow_add-level c =
-    let product_is : c.product-product.result
-    ≡ column_value c.args.list.now c.args.g
-    (single c.args.g c.args.row c.args.digit)
-    (c.args.column + c.loop-i.i) =
-    let next_column : c.args.column + c.loop-i.i < c.args.g.width =
-    omega (arith, c.requires.columns_in.within, c.loop-i-test.true)
-    in
     let pre = c.requires in
-    let args = c.args in
-    c.product-product.ensures
-    ∙ ap (λ place. field_product args.g.s args.digit (get_or args.list.now place 0))
-    (same_place args.g.entries_at (args.row * args.g.width) args.column c.loop-i.i)
-    ∙ sym (single_value pre.field_stands args.row args.digit (args.column + c.loop-i.i) pre.row_lt_t.0 pre.row_lt_t.1 next_column)
-    in
-    let pre = c.requires in
-    let args = c.args in
-    let l = c.loop-i in
-    rw (l.invariant.1, product_is) (omega (arith, level_small pre.field_stands (single args.g args.row args.digit) pre.columns_in l.i c.loop-i-test.true))
+    let taken = c.loop-entry-test.true in
+    rw (c.loop-entry.invariant, c.product.ensures, product_is pre.field_stands pre.row_lt_t pre.columns_in taken)
+    (omega (arith, level_fits pre.field_stands pre.row_lt_t pre.columns_in taken))
 
-pub loop-i-preserved : goal.loop-i-preserved
-loop-i-preserved c =
-    let product_is : c.product-product.result
-    ≡ column_value c.args.list.now c.args.g
-    (single c.args.g c.args.row c.args.digit)
-    (c.args.column + c.loop-i.i) =
-    let next_column : c.args.column + c.loop-i.i < c.args.g.width =
-    omega (arith, c.requires.columns_in.within, c.loop-i-test.true)
-    in
+pub loop-entry-preserved : goal.loop-entry-preserved
+loop-entry-preserved c =
     let pre = c.requires in
-    let args = c.args in
-    c.product-product.ensures
-    ∙ ap (λ place. field_product args.g.s args.digit (get_or args.list.now place 0))
-    (same_place args.g.entries_at (args.row * args.g.width) args.column c.loop-i.i)
-    ∙ sym (single_value pre.field_stands args.row args.digit (args.column + c.loop-i.i) pre.row_lt_t.0 pre.row_lt_t.1 next_column)
-    in
-    let pre = c.requires in
-    let l = c.loop-i in
-    (search rules, rw (l.invariant.1, product_is) (sym (level_more pre.field_stands _ _ l.i)))
+    let l = c.loop-entry in
+    rw (l.invariant, c.product.ensures, product_is pre.field_stands pre.row_lt_t pre.columns_in c.loop-entry-test.true)
+    (sym (level_more pre.field_stands _ _ l.entry-index))

@@ -1,7 +1,5 @@
 -- `put_run` meets its contract: the run with a single digit is that digit's multiple, and any other the sum of two runs that are there.
 -- Assumes nothing.
-use mathlib.Core.Path.{sym}
-use native.Mathlib.Numerals.{lt_of_le_of_ne}
 use native.Mathlib.Omega.{arith}
 use Rattle.generated_runs.proofs.FieldLeads.{lead_single, lead_room, rest_room, sums_stand, run_summed}
 use Rattle.generated_runs.proofs.put_run.Goals as goal
@@ -9,31 +7,27 @@ use Rattle.generated_runs.proofs.put_run.Goals as goal
 pub overflow_mul-lead : goal.overflow_mul-lead
 overflow_mul-lead c =
     let pre = c.requires in
-    let other = lt_of_le_of_ne pre.leads.1 (λ e. c.if-run-lead.false (sym e)) in
-    let room = lead_room pre.field_stands pre.leads.0 pre.leads.1 pre.leads.2 pre.sums pre.runs_before other in
+    let room = lead_room pre.field_stands pre.leads.0 pre.leads.1 pre.leads.2 pre.sums pre.runs_before (omega arith) in
     omega (arith, room, c.ranges.at)
 
 pub overflow_mul-run : goal.overflow_mul-run
 overflow_mul-run c =
     let pre = c.requires in
-    let other = lt_of_le_of_ne pre.leads.1 (λ e. c.if-run-lead.false (sym e)) in
-    let room = rest_room pre.field_stands pre.leads.0 pre.leads.1 pre.leads.2 pre.sums pre.runs_before other in
+    let room = rest_room pre.field_stands pre.leads.0 pre.leads.1 pre.leads.2 pre.sums pre.runs_before (omega arith) in
     omega (arith, room, c.ranges.at)
 
 pub put_sum-requires-clause-n_bound : goal.put_sum-requires-clause-n_bound
 put_sum-requires-clause-n_bound c =
-    let pre = c.requires in
-    let other = lt_of_le_of_ne pre.leads.1 (λ e. c.if-run-lead.false (sym e)) in (
-      lead_room pre.field_stands pre.leads.0 pre.leads.1 pre.leads.2 pre.sums pre.runs_before other,
-      rest_room pre.field_stands pre.leads.0 pre.leads.1 pre.leads.2 pre.sums pre.runs_before other,
+    let pre = c.requires in (
+      lead_room pre.field_stands pre.leads.0 pre.leads.1 pre.leads.2 pre.sums pre.runs_before (omega arith),
+      rest_room pre.field_stands pre.leads.0 pre.leads.1 pre.leads.2 pre.sums pre.runs_before (omega arith),
       pre.n_in_bounds,
     )
 
 pub put_sum-requires-clause-sums_stand : goal.put_sum-requires-clause-sums_stand
 put_sum-requires-clause-sums_stand c =
     let pre = c.requires in
-    let other = lt_of_le_of_ne pre.leads.1 (λ e. c.if-run-lead.false (sym e)) in
-    sums_stand pre.field_stands pre.leads.0 pre.leads.1 pre.leads.2 pre.sums pre.runs_before other
+    sums_stand pre.field_stands pre.leads.0 pre.leads.1 pre.leads.2 pre.sums pre.runs_before (omega arith)
 
 pub returns-then-run-lead : goal.returns-then-run-lead
 returns-then-run-lead c =
@@ -43,5 +37,4 @@ returns-then-run-lead c =
 pub returns-else-run-lead : goal.returns-else-run-lead
 returns-else-run-lead c =
     let pre = c.requires in
-    let other = lt_of_le_of_ne pre.leads.1 (λ e. c.if-run-lead.false (sym e)) in
-    rw (← run_summed pre.field_stands pre.leads.0 pre.leads.1 pre.leads.2 pre.sums pre.runs_before other) c.put_sum.ensures
+    rw (← run_summed pre.field_stands pre.leads.0 pre.leads.1 pre.leads.2 pre.sums pre.runs_before (omega arith)) c.put_sum.ensures

@@ -4,10 +4,9 @@ use mathlib.Core.Path.{sym, ◌∙◌}
 use mathlib.Core.List.{flat_map}
 use native.Mathlib.Nat.{le_antisymm, le_refl}
 use native.Mathlib.Omega.{arith}
-use borrow.Author.Rules.{rules}
 use Rattle.finite.specs.Lists.{from}
 use Rattle.counting.specs.Table.{columns}
-use Rattle.buffers.proofs.Puts.{put_none, put_length}
+use Rattle.buffers.proofs.Puts.{put_none}
 use Rattle.layout.specs.Bytes.{run_of}
 use Rattle.layout.proofs.Bytes.{run_length}
 use Rattle.layout.proofs.Rows.{pieces_room, pieces_next, pieces_all}
@@ -15,37 +14,31 @@ use Rattle.generated_runs.proofs.FieldSheet.{sheet_of, sheet_runs, sheet_columns
 use Rattle.generated_runs.proofs.FieldLeads.{leads_none, runs_before}
 use Rattle.generated_runs.proofs.put_runs.Goals as goal
 
-pub overflow_sub-lead : goal.overflow_sub-lead
-overflow_sub-lead c = c.requires.field_stands.coordinates_least
-
 pub loop-run-init : goal.loop-run-init
 unfolding flat_map from
 loop-run-init c =
     let k = c.requires.field_stands in
-    (search rules, (leads_none _ k.size k.coordinates_least, le_refl 0, omega arith), put_none _ _ (omega arith))
+    ((leads_none _ k.size k.coordinates_least, le_refl 0, omega arith), put_none _ _ (omega arith))
 
 pub put_run-place-requires-clause-runs_before : goal.put_run-place-requires-clause-runs_before
-put_run-place-requires-clause-runs_before c = runs_before (sheet_of c.args.list.now c.args.g) c.loop-run.invariant.2
+put_run-place-requires-clause-runs_before c = runs_before (sheet_of c.args.list.now c.args.g) c.loop-run.invariant.1
 
 pub put_run-place-requires-clause-n_in_bounds : goal.put_run-place-requires-clause-n_in_bounds
 put_run-place-requires-clause-n_in_bounds c =
     let pre = c.requires in
     let l = c.loop-run in
     let S = sheet_of c.args.list.now c.args.g in
-    let room = pieces_room (run_of S) (columns S) l.run _ (λ r h. run_length S r) l.invariant.2 c.loop-run-test.true (rw pre.runs_value (omega (arith, sheet_fits pre.field_stands, pre.in_bounds))) in
+    let room = pieces_room (run_of S) (columns S) l.run _ (λ r h. run_length S r) l.invariant.1 c.loop-run-test.true (rw pre.runs_value (omega (arith, sheet_fits pre.field_stands, pre.in_bounds))) in
     rw (sheet_columns pre.field_stands) at room
 
 pub loop-run-preserved : goal.loop-run-preserved
 loop-run-preserved c =
     let l = c.loop-run in
     let leads = c.next_leading-lead.ensures in
-    (search rules, (leads.0, omega (arith, leads.1), omega (arith, leads.2)), pieces_next _ l.invariant.2 c.put_run-place.ensures)
-
-pub shape_of-table : goal.shape_of-table
-shape_of-table c = put_length c.loop-run.invariant.2
+    ((leads.0, omega (arith, leads.1), omega (arith, leads.2)), pieces_next _ l.invariant.1 c.put_run-place.ensures)
 
 pub returns : goal.returns
 returns c =
     let pre = c.requires in
     let l = c.loop-run in
-    pieces_all _ l.run l.invariant.2 (le_antisymm l.invariant.0 c.loop-run-test.false ∙ pre.runs_value ∙ sym (sheet_runs pre.field_stands))
+    pieces_all _ l.run l.invariant.1 (le_antisymm l.auto.run-end c.loop-run-test.false ∙ pre.runs_value ∙ sym (sheet_runs pre.field_stands))

@@ -1,7 +1,7 @@
 -- `put_runs` meets its contract. The invariant: the first runs are put, each as long as there are factors, and `lead` leads the run before.
 -- Assumes nothing.
 use mathlib.Core.List.{flat_map}
-use Prim.Native.Nat.{◌+◌, ◌-◌, ◌≤◌}
+use Prim.Native.Nat.{◌+◌, ◌≤◌}
 use Rattle.finite.specs.Lists.{from}
 use Rattle.buffers.specs.Put.{Put}
 use Rattle.layout.specs.Bytes.{run_of}
@@ -11,9 +11,5 @@ use Rattle.generated_runs.proofs.put_runs.Given as goal
 
 abbrev pub invariant-loop-run : goal.invariant-loop-run
 invariant-loop-run l =
-    (l.run ≤ l.runs)
-    × (Leads l.g l.lead × (l.lead.run ≤ l.run) × (l.run ≤ l.lead.run + l.lead.span))
+    (Leads l.g l.lead × (l.lead.run ≤ l.run) × (l.run ≤ l.lead.run + l.lead.span))
     × Put l.initial.table 0 (flat_map (run_of (sheet_of l.list l.g)) (from 0 l.run)) l.table l.place
-
-abbrev pub decreases-loop-run : goal.decreases-loop-run
-decreases-loop-run l = l.runs - l.run

@@ -1,7 +1,7 @@
 -- `put_sum` meets its contract. The invariant: the first sums are put, and what stands before them is as it was.
 -- Assumes nothing.
 use mathlib.Core.List.{List, map}
-use Prim.Native.Nat.{ℕ, ◌+◌, ◌-◌, ◌*◌, ◌≤◌}
+use Prim.Native.Nat.{ℕ, ◌+◌, ◌*◌}
 use lib.ListN.{get_or}
 use Rattle.finite.specs.Lists.{from}
 use Rattle.buffers.specs.Put.{Put}
@@ -12,7 +12,4 @@ sum_at most sums table one other i = get_or sums (get_or table (one + i) 0 * mos
 
 abbrev pub invariant-loop-i : goal.invariant-loop-i
 invariant-loop-i l =
-    (l.i ≤ l.n) × Put l.initial.table l.at (map (sum_at l.most l.sums l.initial.table l.one l.other) (from 0 l.i)) l.table l.place
-
-abbrev pub decreases-loop-i : goal.decreases-loop-i
-decreases-loop-i l = l.n - l.i
+    Put l.initial.table l.at (map (sum_at l.most l.sums l.initial.table l.one l.other) (from 0 l.i)) l.table l.place

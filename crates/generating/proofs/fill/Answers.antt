@@ -6,9 +6,8 @@ use lib.Dec.{lit≤}
 use Rattle.galois.proofs.Fields.{size_positive}
 use Rattle.layout.specs.Step.{Left}
 use Rattle.layout.proofs.Rows.{put_holds}
-use Rattle.layout.proofs.Sheets.{held_limits, held_answer}
+use Rattle.layout.proofs.Sheets.{held_answer}
 use Rattle.generated_runs.proofs.FieldSheet.{sheet_runs, sheet_columns}
-use Rattle.generating.proofs.FieldNamed.{generator_small}
 use Rattle.generating.proofs.fill.Goals as goal
 
 pub power-runs-requires : goal.power-runs-requires
@@ -18,26 +17,6 @@ pub power-requires : goal.power-requires
 power-requires c =
     let known = c.requires.field_stands in
     (size_positive _ known.size, le_trans c.widest-width.ensures.1 (lit≤ tt))
-
-pub put_runs-requires-clause-sums : goal.put_runs-requires-clause-sums
-put_runs-requires-clause-sums c =
-    let pre = c.requires in
-    let widest = c.widest-width in
-    let most = c.power.ensures in record {
-      width = widest.result;
-      widths = widest.ensures.0;
-      power = most;
-      few = rw most widest.ensures.1;
-      all = rw most c.level_sums-sums.ensures;
-    }
-
-pub sheet_answer-requires : goal.sheet_answer-requires
-sheet_answer-requires c =
-    let pre = c.requires in
-    held_limits (put_holds _ pre.in_bounds.1 pre.in_bounds_2.1 c.put_runs.ensures c.put_levels.ensures)
-    (c.power-runs.ensures ∙ sym (sheet_runs pre.field_stands))
-    (sym (sheet_columns pre.field_stands))
-    (generator_small pre.field_stands)
 
 pub returns : goal.returns
 unfolding Left

@@ -1,37 +1,32 @@
 -- `widest` meets its contract. The invariant: no factor so far has more columns, and so many make at most 64 levels.
 -- Assumes nothing.
-use native.Mathlib.Nat.{pow-zero}
+use mathlib.Core.Path.{◌≡◌}
+use Prim.Native.Nat.{max}
 use native.Mathlib.Omega.{arith}
-use lib.Dec.{lit≤}
-use borrow.Author.Rules.{rules}
+use Rattle.std.proofs.lemmas.Bool.Decides.{nat_tests}
 use Rattle.generated_runs.specs.LevelSums.{WidthsTo}
+use Rattle.generated_runs.proofs.FieldPlaces.{slice_at, slice_inside, slice_many}
 use Rattle.generated_runs.proofs.FieldSheet.{width_at, width_power}
 use Rattle.generating.proofs.FieldWidths.{widths_more, power_larger}
 use Rattle.generating.proofs.widest.Goals as goal
 
-pub loop-factor-init : goal.loop-factor-init
-loop-factor-init c = (search rules, (λ i h. absurd (omega arith)), rw pow-zero (lit≤ tt))
-
-pub overflow_add-widths_at : goal.overflow_add-widths_at
-overflow_add-widths_at c = let k = c.requires in omega (arith, k.widths_there, k.short)
-
-pub offset_bounds-list-widths_at : goal.offset_bounds-list-widths_at
-offset_bounds-list-widths_at c = let k = c.requires in omega (arith, k.widths_there, k.short)
-
-pub bounds-list-widths_at : goal.bounds-list-widths_at
-bounds-list-widths_at c = let k = c.requires in omega (arith, k.widths_there)
-
-pub loop-factor-preserved : goal.loop-factor-preserved
-loop-factor-preserved c =
-    let l = c.loop-factor in
-    let k = c.requires in
-    let args = c.args in
-    let taken = c.loop-factor-test.true in (
-      search rules,
-      rw c.larger-most.ensures (widths_more (width_at args.list.now args.g) l.invariant.1),
-      rw c.larger-most.ensures (power_larger _ _ _ l.invariant.2 (width_power k l.factor taken)),
+pub loop-width-preserved : goal.loop-width-preserved
+loop-width-preserved c =
+    let g = c.args.g in
+    let l = c.loop-width in
+    let taken = slice_inside c.args.list.now g.widths_at g.n c.loop-width-test.true in
+    let width_is = slice_at c.args.list.now g.widths_at g.n l.width-index taken in
+    let larger : c.max-most.result ≡ max l.most (width_at c.args.list.now g l.width-index) =
+    rw (c.max-most.ensures, width_is) (grind (arith, nat_tests))
+    in (
+      rw larger (widths_more (width_at c.args.list.now g) l.invariant.0),
+      rw larger (power_larger _ _ _ l.invariant.1 (width_power c.requires l.width-index taken)),
     )
 
 pub returns : goal.returns
 unfolding WidthsTo
-returns c = let l = c.loop-factor in (λ i h. l.invariant.1 i (omega (arith, c.loop-factor-test.false)), l.invariant.2)
+returns c =
+    let g = c.args.g in
+    let l = c.loop-width in
+    let many = slice_many c.args.list.now g.widths_at g.n c.requires.widths_there in
+    (λ i h. l.invariant.0 i (omega (arith, h, many, c.loop-width-test.false)), l.invariant.1)

@@ -9,24 +9,21 @@ use Rattle.counting.proofs.GeneratorVerdicts.{fault_only, fault_pairs}
 use Rattle.combining.proofs.Factors.{one_block, only_least, only_nothing}
 use Rattle.generator_check.proofs.check_generator.Goals as goal
 
-pub returns-then-all_distinct : goal.returns-then-all_distinct
-returns-then-all_distinct c = sym (c.all_distinct.ensures c.if-all_distinct.true)
-
 pub least_dependence-requires : goal.least_dependence-requires
 unfolding width
 least_dependence-requires c = rw (c.columns_before-row.ensures, c.factor_block.ensures) (one_block _ _ _ _ c.requires 0 (omega arith))
 
-pub returns-in-Least : goal.returns-in-Least
+pub returns-in-Some : goal.returns-in-Some
 unfolding generator_verdict generator_of width
-returns-in-Least c =
+returns-in-Some c =
     sym (ap generator_finding (fault_only _ _ _ (size_positive _ c.requires.size) c.if-widths-eq1.true
-    ∙ only_least _ _ _ _ c.requires _ (sym c.in-Least.is ∙ (rw (c.columns_before-row.ensures, c.factor_block.ensures) at c.least_dependence.ensures))))
+    ∙ only_least _ _ _ _ c.requires _ (sym c.in-Some.is ∙ (rw (c.columns_before-row.ensures, c.factor_block.ensures) at c.least_dependence.ensures))))
 
-pub returns-in-Nothing : goal.returns-in-Nothing
+pub returns-in-None : goal.returns-in-None
 unfolding generator_verdict generator_of width
-returns-in-Nothing c =
+returns-in-None c =
     sym (ap generator_finding (fault_only _ _ _ (size_positive _ c.requires.size) c.if-widths-eq1.true
-    ∙ only_nothing _ _ _ _ c.requires (sym c.in-Nothing.is ∙ (rw (c.columns_before-row.ensures, c.factor_block.ensures) at c.least_dependence.ensures))))
+    ∙ only_nothing _ _ _ _ c.requires (sym c.in-None.is ∙ (rw (c.columns_before-row.ensures, c.factor_block.ensures) at c.least_dependence.ensures))))
 
 pub returns : goal.returns
 unfolding generator_verdict generator_of width

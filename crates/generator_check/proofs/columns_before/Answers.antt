@@ -1,31 +1,25 @@
 -- `columns_before` meets its contract: the columns so far are the sum over the factors so far.
 -- Assumes nothing.
 use mathlib.Core.Path.{refl}
-use native.Mathlib.Nat.{le_antisymm}
+use Prim.Native.Nat.{◌<◌}
 use native.Mathlib.Numerals.{add-one}
 use native.Mathlib.Omega.{arith}
+use lib.ListN.{length-take}
+use lib.Seq.{get_or-take}
 use Rattle.finite.specs.Sum.{sum}
 use borrow.Author.Rules.{rules}
 use Rattle.generator_check.proofs.columns_before.Goals as goal
 
-pub loop-factor-init : goal.loop-factor-init
+pub loop-width-init : goal.loop-width-init
 unfolding sum
-loop-factor-init c = (search rules, search rules, refl)
+loop-width-init c = (search rules, refl)
 
-pub overflow_cast-columns : goal.overflow_cast-columns
-overflow_cast-columns c = omega (arith, c.type_inv.widths c.loop-factor.factor)
-
-pub overflow_add-columns : goal.overflow_add-columns
-overflow_add-columns c = omega (arith, c.type_inv.widths c.loop-factor.factor)
-
-pub loop-factor-preserved : goal.loop-factor-preserved
+pub loop-width-preserved : goal.loop-width-preserved
 unfolding sum
-loop-factor-preserved c =
-    let l = c.loop-factor in (
-      search rules,
-      omega (arith, c.type_inv.widths l.factor),
-      rw (add-one l.factor, l.invariant.2),
-    )
-
-pub returns : goal.returns
-returns c = rw (le_antisymm c.loop-factor-test.false c.loop-factor.invariant.0) c.loop-factor.invariant.2
+loop-width-preserved c =
+    let l = c.loop-width in
+    let n = c.args.factors in
+    let widths = c.args.widths.now in
+    let inside : l.width-index < n = omega (arith, length-take n widths, c.loop-width-test.true) in
+    rw (get_or-take n widths l.width-index 0 inside)
+    (omega (arith, c.type_inv.widths l.width-index), rw (add-one l.width-index, l.invariant.1))

@@ -10,12 +10,6 @@ use Rattle.generator_check.proofs.dependent_pair.Goals as goal
 pub loop-pair-init : goal.loop-pair-init
 loop-pair-init c = rw c.start-pair.ensures (searched_start _ _)
 
-pub factor_block-one-requires : goal.factor_block-one-requires
-factor_block-one-requires c = (lt_trans c.loop-pair.invariant.ordered c.loop-pair-test.true, c.requires.checkable_generator.few)
-
-pub factor_block-other-requires : goal.factor_block-other-requires
-factor_block-other-requires c = (c.loop-pair-test.true, c.requires.checkable_generator.few)
-
 pub least_dependence-requires : goal.least_dependence-requires
 least_dependence-requires c =
     let l = c.loop-pair in
@@ -23,11 +17,11 @@ least_dependence-requires c =
     rw (c.requires.row_value, c.factor_block-one.ensures, c.factor_block-other.ensures)
     (pair_blocks _ _ _ _ c.requires.checkable_generator _ _ (lt_trans l.invariant.ordered taken) taken)
 
-pub returns-in-Least : goal.returns-in-Least
-returns-in-Least c =
+pub returns-in-Some : goal.returns-in-Some
+returns-in-Some c =
     let l = c.loop-pair in
     sym (ap generator_finding (searched_at _ _ l.pair _ l.invariant c.loop-pair-test.true
-    (pair_least _ _ _ _ c.requires.checkable_generator _ _ _ (sym c.in-Least.is ∙ (rw (c.requires.row_value, c.factor_block-one.ensures, c.factor_block-other.ensures) at c.least_dependence.ensures)))))
+    (pair_least _ _ _ _ c.requires.checkable_generator _ _ _ (sym c.in-Some.is ∙ (rw (c.requires.row_value, c.factor_block-one.ensures, c.factor_block-other.ensures) at c.least_dependence.ensures)))))
 
 pub next-pair-requires : goal.next-pair-requires
 next-pair-requires c =
@@ -43,7 +37,7 @@ pub loop-pair-preserved : goal.loop-pair-preserved
 loop-pair-preserved c =
     let l = c.loop-pair in
     rw c.next-pair.ensures (searched_next _ _ l.pair l.invariant c.loop-pair-test.true
-    (pair_nothing _ _ _ _ c.requires.checkable_generator _ _ (sym c.in-Nothing.is ∙ (rw (c.requires.row_value, c.factor_block-one.ensures, c.factor_block-other.ensures) at c.least_dependence.ensures))))
+    (pair_nothing _ _ _ _ c.requires.checkable_generator _ _ (sym c.in_default.is ∙ (rw (c.requires.row_value, c.factor_block-one.ensures, c.factor_block-other.ensures) at c.least_dependence.ensures))))
 
 pub returns : goal.returns
 returns c = sym (ap generator_finding (searched_none _ _ _ c.loop-pair.invariant c.loop-pair-test.false))

@@ -1,15 +1,15 @@
--- `given_sheet::are_counts_within` meets its contract. The invariant: `all` says whether every level count so far is one of 2 to 64.
-use mathlib.Core.Path.{refl}
+-- `given_sheet::are_counts_within` meets its contract: std's test of all level counts is the contract's.
+use mathlib.Core.Path.{◌∙◌}
+use mathlib.Core.Bool.{◌&&◌}
+use lib.Dec.{leb}
 use borrow.Author.Rules.{rules}
-use Rattle.finite.specs.Sum.{every}
-use Rattle.given_sheet.specs.Given.{counts_within}
-use Rattle.given_sheet.proofs.Given.{counts_next}
+use Rattle.std.proofs.Common.{tests}
+use Rattle.std.proofs.lemmas.Iterator.{YieldsList-from_slice}
+use Rattle.std.proofs.lemmas.Iterator.Search.{all_from_yields_List}
+use Rattle.given_sheet.proofs.Given.{counts_are}
 use Rattle.given_sheet.proofs.are_counts_within.Goals as goal
 
-pub loop-c-init : goal.loop-c-init
-unfolding counts_within every
-loop-c-init c = (search rules, refl)
-
-pub loop-c-preserved : goal.loop-c-preserved
-loop-c-preserved c =
-    (search rules, rw (counts_next c.args.counts.now c.loop-c.c, c.loop-c.invariant.1))
+pub returns : goal.returns
+returns c =
+    all_from_yields_List (λ count. leb 2 count && leb count 64) _ _ c.all.result c.all.ensures.ran (YieldsList-from_slice _ c.iter.ensures.rest) (λ x b q k. search (rules, tests))
+    ∙ counts_are _

@@ -1,13 +1,8 @@
 -- `given_sheet::are_entries_below` meets its contract. The invariant: `all` says whether every entry of the runs so far is below its level count.
 use mathlib.Core.Path.{◌≡◌}
-use Prim.Native.Nat.{◌-◌, ◌*◌, ◌≤◌}
 use lib.ListN.{length}
 use Rattle.given_sheet.specs.Given.{entries_below}
 use Rattle.given_sheet.proofs.are_entries_below.Given as goal
 
 abbrev pub invariant-loop-run : goal.invariant-loop-run
-invariant-loop-run l =
-    (l.run ≤ l.runs) × (l.start ≡ l.run * length l.counts) × (l.all ≡ entries_below l.run (length l.counts) l.counts l.table)
-
-abbrev pub decreases-loop-run : goal.decreases-loop-run
-decreases-loop-run l = l.runs - l.run
+invariant-loop-run l = l.all ≡ entries_below l.run (length l.counts) l.counts l.table

@@ -1,8 +1,7 @@
 -- `given_sheet::is_well_formed` meets its contract: the first part of the test that fails decides it, and otherwise the entries do.
-use mathlib.Core.Path.{◌≡◌, sym, ◌∙◌}
-use mathlib.Core.Bool.{true}
+use mathlib.Core.Path.{sym, ◌∙◌}
 use native.Mathlib.Omega.{arith}
-use Rattle.given_sheet.specs.Given.{size_within, buffers_long}
+use Rattle.given_sheet.specs.Given.{buffers_long}
 use Rattle.given_sheet.proofs.Given.{few_entries, wrong_size, short_buffers, wrong_counts, entries_decide}
 use Rattle.given_sheet.proofs.is_well_formed.Goals as goal
 
@@ -11,37 +10,22 @@ returns-then-not-is_size_within c = wrong_size _ _ _ _ (sym c.is_size_within.ens
 
 pub overflow_mul-runs : goal.overflow_mul-runs
 overflow_mul-runs c =
-    let sized : size_within c.args.runs c.args.columns ≡ true =
-    sym c.is_size_within.ensures ∙ c.if-not-is_size_within.false
-    in
-    let a = c.args in omega (arith, few_entries _ _ a.levels.now a.table.now sized)
+    omega (arith, few_entries _ _ c.args.levels.now c.args.table.now (sym c.is_size_within.ensures ∙ c.if-not-is_size_within.false))
 
 pub returns-then-not-columns-levels : goal.returns-then-not-columns-levels
+unfolding buffers_long
 returns-then-not-columns-levels c =
-    let sized : size_within c.args.runs c.args.columns ≡ true =
-    sym c.is_size_within.ensures ∙ c.if-not-is_size_within.false
-    in
-    short_buffers _ _ _ _ sized (unfold buffers_long in c.if-not-columns-levels.true)
+    short_buffers _ _ _ _ (sym c.is_size_within.ensures ∙ c.if-not-is_size_within.false) c.if-not-columns-levels.true
 
 pub returns-then-not-are_counts_within : goal.returns-then-not-are_counts_within
 unfolding buffers_long
 returns-then-not-are_counts_within c =
-    let sized : size_within c.args.runs c.args.columns ≡ true =
-    sym c.is_size_within.ensures ∙ c.if-not-is_size_within.false
-    in
-    let long : let a = c.args in buffers_long a.runs a.columns a.levels.now a.table.now ≡ true =
-    c.if-not-columns-levels.false
-    in
-    wrong_counts _ _ _ _ sized long (sym c.are_counts_within.ensures ∙ c.if-not-are_counts_within.true)
+    wrong_counts _ _ _ _ (sym c.is_size_within.ensures ∙ c.if-not-is_size_within.false) c.if-not-columns-levels.false
+    (sym c.are_counts_within.ensures ∙ c.if-not-are_counts_within.true)
 
 pub returns : goal.returns
 unfolding buffers_long
 returns c =
-    let sized : size_within c.args.runs c.args.columns ≡ true =
-    sym c.is_size_within.ensures ∙ c.if-not-is_size_within.false
-    in
-    let long : let a = c.args in buffers_long a.runs a.columns a.levels.now a.table.now ≡ true =
-    c.if-not-columns-levels.false
-    in
     c.are_entries_below.ensures
-    ∙ entries_decide _ _ _ _ sized long (sym c.are_counts_within.ensures ∙ c.if-not-are_counts_within.false)
+    ∙ entries_decide _ _ _ _ (sym c.is_size_within.ensures ∙ c.if-not-is_size_within.false) c.if-not-columns-levels.false
+    (sym c.are_counts_within.ensures ∙ c.if-not-are_counts_within.false)

@@ -1,7 +1,8 @@
 -- `ingredient_numbers::widths` meets its contract. The invariant: reading what is left from the cursor on, with the sum so far added, gives the
 -- answer of the whole; and each width is at most 6, so the sum stays small.
 use mathlib.Core.Path.{◌≡◌, sym, ◌∙◌}
-use Prim.Native.Nat.{◌≤◌}
+use Prim.Native.Nat.{ℕ, ◌≤◌}
+use mathlib.Core.List.{List}
 use native.Mathlib.Omega.{arith}
 use Rattle.order.specs.Order.{FactorWidth}
 use Rattle.order.specs.Reader.{value, allowed}
@@ -9,43 +10,37 @@ use Rattle.order.specs.Grammar.{factor_width}
 use Rattle.order.proofs.Tests.{factor_width_iff}
 use Rattle.order.proofs.Powers.{width_small}
 use Rattle.order.proofs.Law.{number_law}
-use Rattle.order.proofs.Answers.{number_value, number_refused, sum_on, sum_refused, sum_done}
+use Rattle.order.proofs.Answers.{number_value, number_refused, passed_on, sum_on, sum_refused, sum_done, plus_zero}
 use Rattle.ingredient_numbers.proofs.widths.Goals as goal
+
+-- A width that was read is at most 6.
+at_most_six : (s : ℕ) → 2 ≤ s → (list : List ℕ) (at : ℕ) {x next : ℕ} → allowed (factor_width s) list at ≡ value x next → x ≤ 6
+at_most_six s low list at e =
+    width_small s _ low ((number_law (factor_width s) (FactorWidth s) (factor_width_iff s)).sound list at _ _ e).0
 
 pub overflow_add-sum : goal.overflow_add-sum
 overflow_add-sum c =
-    -- the width that was read
-    let width_read : allowed (factor_width c.args.s) c.args.list.now c.loop-left.c.at ≡ value c.in-Is.value c.in-Is.next.at =
-    number_value _ (sym c.factor_width.ensures ∙ c.in-Is.is) in
-    let at_most_six : c.in-Is.value ≤ 6 =
-    width_small c.args.s _ c.requires.0.0 ((number_law (factor_width c.args.s) (FactorWidth c.args.s) (factor_width_iff c.args.s)).sound _ _ _ _ width_read).0 in
-    omega (arith, at_most_six, c.requires.1)
+    let width_read = number_value _ (sym c.factor_width.ensures ∙ c.in_ok-width.was) in
+    let small = at_most_six c.args.s c.requires.0.0 _ _ width_read in
+    omega (arith, small, c.requires.1)
 
-pub returns-in-Refused : goal.returns-in-Refused
-returns-in-Refused c =
-    let a = c.args in
-    let at_loop = c.loop-left in
-    let e = number_refused _ (sym c.factor_width.ensures ∙ c.in-Refused.is) in
-    sym (sum_refused (allowed (factor_width a.s)) a.list.now at_loop.c.at at_loop.sum at_loop.left c.loop-left-test.true e)
-    ∙ at_loop.invariant.1
+pub returns-in_err-width : goal.returns-in_err-width
+returns-in_err-width c =
+    let e = number_refused _ (sym c.factor_width.ensures ∙ c.in_err-width.was) in
+    passed_on c.from_residual.ensures.1
+    (sym (sum_refused (allowed (factor_width c.args.s)) c.args.list.now c.loop.c.at c.loop.sum c.args.n c.loop.counter c.loop-test.true e)
+    ∙ c.loop.invariant.1)
 
-pub loop-left-preserved : goal.loop-left-preserved
-loop-left-preserved c =
-    -- the width that was read
-    let width_read : allowed (factor_width c.args.s) c.args.list.now c.loop-left.c.at ≡ value c.in-Is.value c.in-Is.next.at =
-    number_value _ (sym c.factor_width.ensures ∙ c.in-Is.is) in
-    let at_most_six : c.in-Is.value ≤ 6 =
-    width_small c.args.s _ c.requires.0.0 ((number_law (factor_width c.args.s) (FactorWidth c.args.s) (factor_width_iff c.args.s)).sound _ _ _ _ width_read).0 in
-    let a = c.args in
-    let at_loop = c.loop-left in (
-      omega (arith, at_most_six),
-      sym (sum_on (allowed (factor_width a.s)) a.list.now at_loop.c.at at_loop.sum at_loop.left c.loop-left-test.true width_read)
-          ∙ at_loop.invariant.1,
+pub loop-preserved : goal.loop-preserved
+loop-preserved c =
+    let width_read = number_value _ (sym c.factor_width.ensures ∙ c.in_ok-width.was) in
+    let small = at_most_six c.args.s c.requires.0.0 _ _ width_read in (
+      omega (arith, small),
+      sym (sum_on (allowed (factor_width c.args.s)) c.args.list.now c.loop.c.at c.loop.sum c.args.n c.loop.counter c.loop-test.true width_read)
+          ∙ c.loop.invariant.1,
     )
 
 pub returns : goal.returns
 returns c =
-    let a = c.args in
-    let at_loop = c.loop-left in
-    sym (sum_done (allowed (factor_width a.s)) a.list.now at_loop.c.at at_loop.sum at_loop.left c.loop-left-test.false)
-    ∙ at_loop.invariant.1
+    sym (sum_done (allowed (factor_width c.args.s)) c.args.list.now c.loop.c.at c.loop.sum c.args.n c.loop.counter c.loop-test.false)
+    ∙ c.loop.invariant.1

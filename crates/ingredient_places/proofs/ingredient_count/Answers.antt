@@ -5,10 +5,10 @@ use Rattle.places.specs.Places.{ingredients_of, first_ingredient_place, ingredie
 use Rattle.places.proofs.Lookups.{count_is, count_none}
 use Rattle.ingredient_places.proofs.ingredient_count.Goals as goal
 
-pub returns-in-Is : goal.returns-in-Is
+pub returns-in-Ok : goal.returns-in-Ok
 unfolding ingredients_start ingredient_count
-returns-in-Is c = count_is ingredients_of first_ingredient_place (read_order c.args.list.now) (sym c.ingredients_start.ensures ∙ c.in-Is.is)
+returns-in-Ok c = count_is ingredients_of first_ingredient_place (read_order c.args.list.now) (sym c.ingredients_start.ensures ∙ c.in-Ok.is)
 
-pub returns-in-Refused : goal.returns-in-Refused
+pub returns-in-Err : goal.returns-in-Err
 unfolding ingredients_start ingredient_count
-returns-in-Refused c = count_none ingredients_of first_ingredient_place (read_order c.args.list.now) (sym c.ingredients_start.ensures ∙ c.in-Refused.is)
+returns-in-Err c = count_none ingredients_of first_ingredient_place (read_order c.args.list.now) (sym c.ingredients_start.ensures ∙ c.in-Err.is)

@@ -1,11 +1,7 @@
--- `line_parts::put_all_in_three` meets its contract. The invariant: the first `i` numbers are put, up to `place`.
-use Prim.Native.Nat.{◌-◌, ◌≤◌}
-use lib.ListN.{length, take}
+-- `line_parts::put_all_in_three` meets its contract. The invariant: the numbers before this one are put, up to `place`.
+use lib.ListN.{take}
 use Rattle.line_parts.specs.Three.{PutThree}
 use Rattle.line_parts.proofs.put_all_in_three.Given as goal
 
-abbrev pub invariant-loop-i : goal.invariant-loop-i
-invariant-loop-i l = (l.i ≤ length l.numbers) × PutThree (take l.i l.numbers) l.initial.buf l.at l.buf l.place
-
-abbrev pub decreases-loop-i : goal.decreases-loop-i
-decreases-loop-i l = length l.numbers - l.i
+abbrev pub invariant-loop-number : goal.invariant-loop-number
+invariant-loop-number l = PutThree (take l.number-index l.numbers) l.initial.buf l.at l.buf l.place

@@ -1,17 +1,12 @@
--- `lines::end_with_numbers` meets its contract. The invariant: the first `i` numbers are put, up to `place`, each in at most 21 bytes.
-use Prim.Native.Nat.{◌<◌, suc-le-suc}
-use lib.ListN.{length, get_or}
-use Rattle.decimals.specs.Decimals.{decimal_digits}
+-- `lines::end_with_numbers` meets its contract. The invariant: the numbers before this one are put, up to `place`, each in at most 21 bytes.
 use Rattle.rows.proofs.Rows.{first_room, first_next}
-use Rattle.decimals.proofs.Decimals.{decimal_word}
+use Rattle.lines.proofs.Runs.{word_short}
 use Rattle.lines.proofs.end_with_numbers.Goals as goal
 
 pub put_spaced-place-requires : goal.put_spaced-place-requires
-put_spaced-place-requires c = let short : length (decimal_digits (get_or c.args.numbers.now c.loop-i.i 0)) < 21 = suc-le-suc (decimal_word _ (c.shared_slice_known-in-loop-i-1.given c.loop-i.i).fits) in
-    first_room c.loop-i.invariant c.loop-i-test.true short
-    c.requires
+put_spaced-place-requires c =
+    first_room c.loop-number.invariant c.loop-number-test.true (word_short (c.type_inv.numbers c.loop-number.number-index)) c.requires
 
-pub loop-i-preserved : goal.loop-i-preserved
-loop-i-preserved c = let short : length (decimal_digits (get_or c.args.numbers.now c.loop-i.i 0)) < 21 = suc-le-suc (decimal_word _ (c.shared_slice_known-in-loop-i-1.given c.loop-i.i).fits) in
-    first_next c.loop-i.invariant c.loop-i-test.true short
-    c.put_spaced-place.ensures
+pub loop-number-preserved : goal.loop-number-preserved
+loop-number-preserved c =
+    first_next c.loop-number.invariant c.loop-number-test.true (word_short (c.type_inv.numbers c.loop-number.number-index)) c.put_spaced-place.ensures

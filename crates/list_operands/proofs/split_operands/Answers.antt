@@ -3,15 +3,15 @@ use mathlib.Core.Path.{sym, ◌∙◌}
 use Rattle.order.specs.Order.{SPLIT}
 use Rattle.order.specs.Grammar.{read_split}
 use Rattle.order.specs.Answers.{walk_of}
-use Rattle.order.proofs.Answers.{number_go, number_stops, number_last}
+use Rattle.order.proofs.Answers.{passed_on, number_go, number_stops, number_last}
 use Rattle.list_operands.proofs.split_operands.Goals as goal
 
-pub returns-in-Is : goal.returns-in-Is
+pub returns-in_err-next : goal.returns-in_err-next
 unfolding read_split
-returns-in-Is c =
-    number_go walk_of _ _ (sym c.number.ensures ∙ c.in-Is.is)
-    (number_last (SPLIT c.in-Is.value) _ c.after.ensures c.ingredient_number.ensures)
+returns-in_err-next c = passed_on c.from_residual.ensures.1 (number_stops _ _ (sym c.number.ensures ∙ c.in_err-next.was))
 
-pub returns-in-Refused : goal.returns-in-Refused
+pub returns : goal.returns
 unfolding read_split
-returns-in-Refused c = number_stops _ _ (sym c.number.ensures ∙ c.in-Refused.is)
+returns c =
+    number_go walk_of _ _ (sym c.number.ensures ∙ c.in_ok-next.was)
+    (number_last (SPLIT _) _ c.after.ensures c.ingredient_number.ensures)

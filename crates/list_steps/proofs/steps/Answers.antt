@@ -1,28 +1,20 @@
 -- `list_steps::steps` meets its contract. The invariant: reading what is left from the cursor on gives the answer of the whole.
 use mathlib.Core.Path.{sym, ◌∙◌}
 use Rattle.order.specs.Grammar.{read_step}
-use Rattle.order.proofs.Answers.{stage_value, stage_refused, times_on, times_refused, times_done}
+use Rattle.order.proofs.Answers.{stage_value, stage_refused, passed_on, times_on, times_refused, times_done}
 use Rattle.list_steps.proofs.steps.Goals as goal
 
-pub returns-in-Refused : goal.returns-in-Refused
-returns-in-Refused c =
-    let a = c.args in
-    let at_loop = c.loop-left in
-    let e = stage_refused _ _ (sym c.step.ensures ∙ c.in-Refused.is) in
-    sym (times_refused read_step a.list.now at_loop.c.at at_loop.left c.loop-left-test.true e)
-    ∙ at_loop.invariant
+pub returns-in_err-c : goal.returns-in_err-c
+returns-in_err-c c =
+    let e = stage_refused _ _ (sym c.step.ensures ∙ c.in_err-c.was) in
+    passed_on c.from_residual.ensures.1
+    (sym (times_refused read_step c.args.list.now c.loop.c.at c.args.n c.loop.counter c.loop-test.true e) ∙ c.loop.invariant)
 
-pub loop-left-preserved : goal.loop-left-preserved
-loop-left-preserved c =
-    let a = c.args in
-    let at_loop = c.loop-left in
-    stage_value _ _ (sym c.step.ensures ∙ c.in-Found.is) λ g kind from e.
-    sym (times_on read_step a.list.now at_loop.c.at at_loop.left c.loop-left-test.true e)
-    ∙ at_loop.invariant
+pub loop-preserved : goal.loop-preserved
+loop-preserved c =
+    stage_value _ _ (sym c.step.ensures ∙ c.in_ok-c.was) λ s kind from e.
+    sym (times_on read_step c.args.list.now c.loop.c.at c.args.n c.loop.counter c.loop-test.true e) ∙ c.loop.invariant
 
 pub returns : goal.returns
 returns c =
-    let a = c.args in
-    let at_loop = c.loop-left in
-    sym (times_done read_step a.list.now at_loop.c.at at_loop.left c.loop-left-test.false)
-    ∙ at_loop.invariant
+    sym (times_done read_step c.args.list.now c.loop.c.at c.args.n c.loop.counter c.loop-test.false) ∙ c.loop.invariant

@@ -1,14 +1,9 @@
 -- `column_deviation` meets its contract: the counters hold the counts of the column's values, and past p they are zero.
 -- Assumes nothing.
 use mathlib.Core.Path.{◌∙◌, ap}
-use native.Mathlib.Omega.{arith}
 use Rattle.tally.specs.Tally.{as_deviation}
 use Rattle.matrix_balance.proofs.Values.{column_counted, column_past}
 use Rattle.matrix_balance.proofs.column_deviation.Goals as goal
-
-pub first_deviation-requires : goal.first_deviation-requires
-first_deviation-requires c =
-    (c.tally_values.ensures.size, omega (arith, c.requires.matrix_stands.modulus_limits.1))
 
 pub returns-clause-value : goal.returns-clause-value
 returns-clause-value c =

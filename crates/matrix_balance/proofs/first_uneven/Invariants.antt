@@ -2,15 +2,11 @@
 -- Assumes nothing.
 use mathlib.Core.Path.{◌≡◌}
 use mathlib.Core.Option.{none}
-use Prim.Native.Nat.{ℕ, ◌-◌, ◌<◌}
-use lib.ListN.{length}
+use Prim.Native.Nat.{ℕ, ◌<◌}
 use Rattle.tally.specs.Tally.{Cleared}
 use Rattle.matrix_balance.proofs.Listed.{in_place}
 use Rattle.matrix_balance.proofs.first_uneven.Given as goal
 
-abbrev pub invariant-loop-i : goal.invariant-loop-i
-invariant-loop-i l =
-    Cleared l.counters × ((k : ℕ) → k < l.i → in_place l.list l.ds l.levels k ≡ none)
-
-abbrev pub decreases-loop-i : goal.decreases-loop-i
-decreases-loop-i l = length l.ds - l.i
+abbrev pub invariant-loop-d : goal.invariant-loop-d
+invariant-loop-d l =
+    Cleared l.counters × ((k : ℕ) → k < l.d-index → in_place l.list l.ds l.levels k ≡ none)

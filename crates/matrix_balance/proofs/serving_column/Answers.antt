@@ -11,19 +11,8 @@ unfolding placed_matrix matrix_of
 returns-then-not-serves-clause-by_index c =
     let D = placed_matrix c.args.list.now c.args.m in λ q. not_asked D q _ (c.if-not-serves.true) c.serves.ensures
 
-pub returns-then-not-serves-clause-cleared_2 : goal.returns-then-not-serves-clause-cleared_2
-unfolding placed_matrix matrix_of
-returns-then-not-serves-clause-cleared_2 c =
-    let D = placed_matrix c.args.list.now c.args.m in λ e. c.requires.cleared
-
 pub returns-clause-by_index : goal.returns-clause-by_index
 unfolding placed_matrix matrix_of
 returns-clause-by_index c =
     let D = placed_matrix c.args.list.now c.args.m in
     let searched = c.uneven_column.ensures in λ q. searched.by_index q ∙ asked D q _ (c.if-not-serves.false) c.serves.ensures
-
-pub returns-clause-cleared_2 : goal.returns-clause-cleared_2
-unfolding placed_matrix matrix_of
-returns-clause-cleared_2 c =
-    let D = placed_matrix c.args.list.now c.args.m in
-    let searched = c.uneven_column.ensures in searched.cleared_2

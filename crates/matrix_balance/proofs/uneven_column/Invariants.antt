@@ -2,7 +2,7 @@
 -- Assumes nothing.
 use mathlib.Core.Path.{◌≡◌}
 use mathlib.Core.Option.{none}
-use Prim.Native.Nat.{ℕ, ◌-◌, ◌<◌}
+use Prim.Native.Nat.{ℕ, ◌<◌}
 use lib.ListN.{length}
 use Rattle.sum_bytes.specs.Summing.{placed_matrix}
 use Rattle.tally.specs.Tally.{Cleared}
@@ -14,6 +14,3 @@ invariant-loop-column l =
     (length l.counters ≡ length l.initial.counters)
     × Cleared l.counters
     × ((q k : ℕ) → k < l.column → in_column q (placed_matrix l.list l.m) k ≡ none)
-
-abbrev pub decreases-loop-column : goal.decreases-loop-column
-decreases-loop-column l = l.m.columns - l.column

@@ -11,12 +11,12 @@ use Rattle.matrix_check.proofs.check_matrix.Goals as goal
 pub loop-pair-init : goal.loop-pair-init
 loop-pair-init c = (c.difference_table-differences.ensures, cleared_made 4096 refl, rw c.start-pair.ensures (searched_start _ _))
 
-pub returns-in-At : goal.returns-in-At
+pub returns-in-Some : goal.returns-in-Some
 unfolding matrix_verdict matrix_of
-returns-in-At c =
+returns-in-Some c =
     let l = c.loop-pair in
     sym (ap matrix_finding (searched_at _ _ l.pair _ l.invariant.2 c.loop-pair-test.true
-    (difference_at _ _ _ _ _ (sym c.in-At.is ∙ c.differences_deviation.ensures.value))))
+    (difference_at _ _ _ _ (sym c.in-Some.is ∙ c.differences_deviation-found.ensures.value))))
 
 pub next-pair-requires : goal.next-pair-requires
 next-pair-requires c =
@@ -31,11 +31,11 @@ loop-pair-smaller c = rw c.next-pair.ensures (left_falls _ _ c.loop-pair.invaria
 pub loop-pair-preserved : goal.loop-pair-preserved
 loop-pair-preserved c =
     let l = c.loop-pair in
-    let called = c.differences_deviation in (
+    let called = c.differences_deviation-found in (
       l.invariant.0,
-      called.ensures.cleared_2 c.in-Nowhere.is,
+      called.ensures.cleared_2 c.in_default.is,
       rw c.next-pair.ensures (searched_next _ _ l.pair l.invariant.2 c.loop-pair-test.true
-          (difference_nowhere _ _ _ (sym c.in-Nowhere.is ∙ called.ensures.value))),
+          (difference_nowhere _ _ _ (sym c.in_default.is ∙ called.ensures.value))),
     )
 
 pub returns : goal.returns

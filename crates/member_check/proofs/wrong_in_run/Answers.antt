@@ -17,12 +17,12 @@ bounds-row-c2 c = member_in _ _ c.requires.all_below 1 (omega arith) c.column_of
 pub loop-h-init : goal.loop-h-init
 loop-h-init c =
     let named = c.column_of-c1.ensures in
-    (omega arith, omega arith, sum_first _ _ _ _ named (level_in _ _ _ c.requires.levels_below 0 (omega arith) named), right_none _ _ _ _)
+    (sum_first _ _ _ _ named (level_in _ _ _ c.requires.levels_below 0 (omega arith) named), right_none _ _ _ _)
 
 pub modulo_sum-sum-requires : goal.modulo_sum-sum-requires
 modulo_sum-sum-requires c =
     let l = c.loop-h in
-    (sum_below _ _ _ _ (omega (arith, c.requires.named.least)) l.h l.invariant.2, level_in _ _ _ c.requires.levels_below 1 (omega arith) c.column_of-c2.ensures)
+    (sum_below _ _ _ _ (omega (arith, c.requires.named.least)) l.h l.invariant.0, level_in _ _ _ c.requires.levels_below 1 (omega arith) c.column_of-c2.ensures)
 
 pub bounds-row-column : goal.bounds-row-column
 bounds-row-column c =
@@ -34,9 +34,9 @@ returns-then-row-column c =
     -- the sum of the member in hand
     let sum_in_hand : c.modulo_sum-sum.result
     ≡ member_sum c.args.p (members_of c.args.members.now) (every_run c.args.row.now) c.args.run (c.loop-h.h + 1) =
-    c.modulo_sum-sum.ensures ∙ sum_next _ _ _ _ c.column_of-c2.ensures l.h l.invariant.0 l.invariant.2
+    c.modulo_sum-sum.ensures ∙ sum_next _ _ _ _ c.column_of-c2.ensures l.h (omega arith) l.invariant.0
     in
-    wrong_found _ _ _ _ l.h c.column_of-column.ensures l.invariant.0 (omega arith) l.invariant.3 (λ e. c.if-row-column.true (e ∙ sym sum_in_hand))
+    wrong_found _ _ _ _ l.h c.column_of-column.ensures (omega arith) (omega arith) l.invariant.1 (λ e. c.if-row-column.true (e ∙ sym sum_in_hand))
 
 pub loop-h-preserved : goal.loop-h-preserved
 loop-h-preserved c =
@@ -44,9 +44,9 @@ loop-h-preserved c =
     -- the sum of the member in hand
     let sum_in_hand : c.modulo_sum-sum.result
     ≡ member_sum c.args.p (members_of c.args.members.now) (every_run c.args.row.now) c.args.run (c.loop-h.h + 1) =
-    c.modulo_sum-sum.ensures ∙ sum_next _ _ _ _ c.column_of-c2.ensures l.h l.invariant.0 l.invariant.2
+    c.modulo_sum-sum.ensures ∙ sum_next _ _ _ _ c.column_of-c2.ensures l.h (omega arith) l.invariant.0
     in
-    (omega arith, omega arith, sum_in_hand, right_next _ _ _ _ l.h c.column_of-column.ensures l.invariant.0 l.invariant.3 (c.if-row-column.false ∙ sum_in_hand))
+    (sum_in_hand, right_next _ _ _ _ l.h c.column_of-column.ensures (omega arith) l.invariant.1 (c.if-row-column.false ∙ sum_in_hand))
 
 pub returns : goal.returns
-returns c = none_wrong _ _ _ _ c.loop-h.h (omega arith) c.loop-h.invariant.3
+returns c = none_wrong _ _ _ _ c.loop-h.h (omega arith) c.loop-h.invariant.1

@@ -1,13 +1,6 @@
 -- `find_stops` meets its contract. The invariant: the stops of the stretches that start at the column in hand or after it are found.
-use mathlib.Core.Path.{◌≡◌}
-use Prim.Native.Nat.{◌≤◌}
-use lib.ListN.{length}
 use Rattle.merged_rows.proofs.Stops.{StopsFrom}
 use Rattle.merged_rows.proofs.find_stops.Given as goal
 
 abbrev pub invariant-loop-column : goal.invariant-loop-column
-invariant-loop-column l =
-    (l.column ≤ l.columns) × (length l.stops ≡ length l.initial.stops) × StopsFrom l.roles l.columns l.stops l.column
-
-abbrev pub decreases-loop-column : goal.decreases-loop-column
-decreases-loop-column l = l.column
+invariant-loop-column l = StopsFrom l.roles l.columns l.stops l.column

@@ -1,15 +1,10 @@
 -- `merge_row` meets its contract. The invariant: what stands in the places of the columns so far is put, and a stretch starts at the next one.
-use mathlib.Core.Path.{◌∙◌}
 use Prim.Native.Nat.{◌+◌}
 use native.Mathlib.Nat.{le_antisymm}
 use native.Mathlib.Omega.{arith}
-use Rattle.buffers.proofs.Puts.{put_length}
 use Rattle.merged_rows.specs.MergedRow.{merged_row}
 use Rattle.merged_rows.proofs.Rows.{row_none, row_stretch, row_member, stretch_room, member_room}
 use Rattle.merged_rows.proofs.merge_row.Goals as goal
-
-pub overflow_cast-stop : goal.overflow_cast-stop
-overflow_cast-stop c = omega (arith, c.shared_slice_known-4-1.given 0)
 
 pub loop-stop-init : goal.loop-stop-init
 loop-stop-init c = (c.requires.has_stops.given 0 (omega arith), row_none _ _ _ _ _ (omega arith))
@@ -24,9 +19,6 @@ put_member-place-requires c =
     let l = c.loop-stop in
     member_room _ _ _ _ _ l.stop (row_stretch _ _ _ _ _ l.column l.invariant.1 l.invariant.0 c.put_bytes-place.ensures) c.loop-stop-test.true c.requires.row_in_bounds_2
 
-pub overflow_cast-stop-in-loop-stop : goal.overflow_cast-stop-in-loop-stop
-overflow_cast-stop-in-loop-stop c = omega (arith, c.shared_slice_known-in-loop-stop-2-1.given (c.loop-stop.stop + 1))
-
 pub loop-stop-preserved : goal.loop-stop-preserved
 loop-stop-preserved c =
     let l = c.loop-stop in
@@ -39,9 +31,6 @@ pub put_bytes-requires : goal.put_bytes-requires
 put_bytes-requires c =
     let l = c.loop-stop in
     stretch_room _ _ _ _ _ l.column l.invariant.1 l.invariant.0 c.requires.row_in_bounds_2
-
-pub shape_of-buf : goal.shape_of-buf
-shape_of-buf c = put_length c.put_bytes.ensures ∙ put_length c.loop-stop.invariant.1.put
 
 pub returns : goal.returns
 unfolding merged_row

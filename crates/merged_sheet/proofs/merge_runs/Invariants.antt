@@ -1,6 +1,4 @@
 -- `merge_runs` meets its contract. The invariant: the runs of the next sheet before the run in hand are put.
-use mathlib.Core.Path.{◌≡◌}
-use Prim.Native.Nat.{◌-◌, ◌*◌, ◌≤◌}
 use lib.ListN.{length}
 use Rattle.counting.specs.Table.{table_of}
 use Rattle.step_tables.specs.Merge.{merge_step}
@@ -10,9 +8,4 @@ use Rattle.merged_sheet.proofs.merge_runs.Given as goal
 
 abbrev pub invariant-loop-run : goal.invariant-loop-run
 invariant-loop-run l =
-    (l.run ≤ l.runs)
-    × (l.start ≡ l.run * length l.levels)
-    × RunsPut (merge_step l.p (members_of l.members) (table_of l.table l.levels l.runs)) (length l.levels) l.initial.scratch l.run l.scratch l.place
-
-abbrev pub decreases-loop-run : goal.decreases-loop-run
-decreases-loop-run l = l.runs - l.run
+    RunsPut (merge_step l.p (members_of l.members) (table_of l.table l.levels l.runs)) (length l.levels) l.initial.scratch l.run l.scratch l.place

@@ -12,24 +12,6 @@ offset_bounds-list-at c = omega (arith, merge_end c.requires.ready.readable c.re
 pub bounds-list-at : goal.bounds-list-at
 bounds-list-at c = omega (arith, merge_end c.requires.ready.readable c.requires.stands)
 
-pub overflow_add-start : goal.overflow_add-start
-overflow_add-start c = omega (arith, merge_end c.requires.ready.readable c.requires.stands)
-
-pub overflow_add-end : goal.overflow_add-end
-overflow_add-end c = omega (arith, merge_end c.requires.ready.readable c.requires.stands)
-
-pub overflow_add-end-2 : goal.overflow_add-end-2
-overflow_add-end-2 c = omega (arith, merge_end c.requires.ready.readable c.requires.stands)
-
-pub offset_bounds-list-start : goal.offset_bounds-list-start
-offset_bounds-list-start c = omega (arith, merge_end c.requires.ready.readable c.requires.stands)
-
-pub slice_bounds-members-end : goal.slice_bounds-members-end
-slice_bounds-members-end c = omega (arith, merge_end c.requires.ready.readable c.requires.stands)
-
-pub slice_bounds-assign_roles-end-2 : goal.slice_bounds-assign_roles-end-2
-slice_bounds-assign_roles-end-2 c = sym (length-take-le _ _ (ready_few c.requires.ready))
-
 pub assign_roles-requires-clause-named : goal.assign_roles-requires-clause-named
 assign_roles-requires-clause-named c =
     let ready = c.requires.ready in merge_named ready.readable c.requires.stands
@@ -43,9 +25,6 @@ returns-then-not-assign_roles-clause-left c = merge_refused c.requires.stands c.
 
 pub returns-then-not-assign_roles-clause-zeros : goal.returns-then-not-assign_roles-clause-zeros
 returns-then-not-assign_roles-clause-zeros c = c.requires.ready.scratch_clear
-
-pub slice_bounds-check_members-end-2 : goal.slice_bounds-check_members-end-2
-slice_bounds-check_members-end-2 c = sym (length-take-le _ _ (ready_few c.requires.ready))
 
 pub check_members-verdict-requires : goal.check_members-verdict-requires
 check_members-verdict-requires c =
@@ -63,18 +42,18 @@ merge_sheet-requires c =
       given = called.ensures.has_roles so;
     }
 
-pub returns-in-At-clause-left : goal.returns-in-At-clause-left
-returns-in-At-clause-left c = merge_wrong c.requires.stands c.requires.ready (sym (c.if-not-assign_roles.false) ∙ c.assign_roles.ensures.value)
-    c.check_members-verdict.ensures.value _ c.in-At.is
+pub returns-in-Some-clause-left : goal.returns-in-Some-clause-left
+returns-in-Some-clause-left c = merge_wrong c.requires.stands c.requires.ready (sym (c.if-not-assign_roles.false) ∙ c.assign_roles.ensures.value)
+    c.check_members-verdict.ensures.value _ c.in-Some.is
 
-pub returns-in-At-clause-zeros : goal.returns-in-At-clause-zeros
-returns-in-At-clause-zeros c = c.requires.ready.scratch_clear
+pub returns-in-Some-clause-zeros : goal.returns-in-Some-clause-zeros
+returns-in-Some-clause-zeros c = c.requires.ready.scratch_clear
 
-pub returns-in-Nowhere-clause-left : goal.returns-in-Nowhere-clause-left
-returns-in-Nowhere-clause-left c =
+pub returns-clause-left : goal.returns-clause-left
+returns-clause-left c =
     let built = c.merge_sheet.ensures in merge_done c.requires.stands c.requires.ready (sym (c.if-not-assign_roles.false) ∙ c.assign_roles.ensures.value)
-    c.check_members-verdict.ensures.value _ c.in-Nowhere.is _ _ _ built.left
+    c.check_members-verdict.ensures.value _ c.in_default.is _ _ _ built.left
 
-pub returns-in-Nowhere-clause-zeros : goal.returns-in-Nowhere-clause-zeros
-returns-in-Nowhere-clause-zeros c =
+pub returns-clause-zeros : goal.returns-clause-zeros
+returns-clause-zeros c =
     let built = c.merge_sheet.ensures in built.zeros

@@ -1,4 +1,6 @@
 -- `page_counts::page_count` meets its contract.
+use mathlib.Core.Path.{◌≡◌}
+use Prim.Native.Nat.{◌+◌, ◌/◌}
 use native.Mathlib.Omega.{arith}
 use Rattle.page_text.specs.Pages.{parts, page_count}
 use Rattle.page_text.proofs.Counts.{pages_most}
@@ -6,7 +8,9 @@ use Rattle.page_counts.proofs.page_count.Goals as goal
 
 pub returns : goal.returns
 unfolding page_count parts
-returns c = rw c.run_parts.ensures
+returns c =
+    let columns_parts : c.div_ceil.result ≡ (c.args.columns + 24) / 25 = omega arith in
+    rw (c.run_parts.ensures, columns_parts)
 
 pub overflow_mul-result : goal.overflow_mul-result
 overflow_mul-result c =

@@ -1,6 +1,6 @@
 -- `page_putting::page_part` meets its contract.
 use native.Mathlib.Omega.{arith}
-use Rattle.page_putting.proofs.Parts.{blocks_some, run_small, column_small, part_last, part_full}
+use Rattle.page_putting.proofs.Parts.{blocks_some, run_small, column_small, part_is}
 use Rattle.page_putting.proofs.page_part.Goals as goal
 
 pub nonzero_rem-run : goal.nonzero_rem-run
@@ -15,11 +15,8 @@ nonzero_div-column c = nonzero_rem-run c
 pub overflow_mul-column : goal.overflow_mul-column
 overflow_mul-column c = let h = c.requires in omega (arith, column_small _ _ _ c.run_parts-blocks.ensures h.0 h.3 h.4)
 
-pub overflow_sub-columns : goal.overflow_sub-columns
-overflow_sub-columns c = let h = c.requires in omega (arith, column_small _ _ _ c.run_parts-blocks.ensures h.0 h.3 h.4)
-
-pub returns-then-columns-column-lt25 : goal.returns-then-columns-column-lt25
-returns-then-columns-column-lt25 c = let h = c.requires in part_last _ _ _ c.run_parts-blocks.ensures h.0 h.3 h.4 c.if-columns-column-lt25.true
+pub overflow_add-column : goal.overflow_add-column
+overflow_add-column c = let h = c.requires in omega (arith, column_small _ _ _ c.run_parts-blocks.ensures h.0 h.3 h.4)
 
 pub returns : goal.returns
-returns c = let h = c.requires in part_full _ _ _ c.run_parts-blocks.ensures h.0 h.3 h.4 c.if-columns-column-lt25.false
+returns c = let h = c.requires in part_is _ _ _ c.run_parts-blocks.ensures h.0 h.3 h.4 c.min.ensures

@@ -8,7 +8,7 @@ use Rattle.page_putting.proofs.Parts.{part_line_length, lines_none}
 use Rattle.page_putting.proofs.put_run_lines.Goals as goal
 
 pub loop-k-init : goal.loop-k-init
-loop-k-init c = ((omega arith, omega arith), lines_none _ _ _ (omega arith))
+loop-k-init c = (omega arith, lines_none _ _ _ (omega arith))
 
 pub overflow_add-part : goal.overflow_add-part
 overflow_add-part c = omega (arith, c.requires.part_in.start_most)
@@ -22,7 +22,7 @@ put_run_or_blank-place-requires-clause-at_in_bounds c = omega (arith, put_length
 pub loop-k-preserved : goal.loop-k-preserved
 loop-k-preserved c =
     let put = c.put_run_or_blank-place.ensures in (
-      (omega arith, omega (arith, put.ends, part_line_length c.requires.part_in (c.args.part.run + c.loop-k.k))),
+      omega (arith, put.ends, part_line_length c.requires.part_in (c.args.part.run + c.loop-k.k)),
       pieces_next _ c.loop-k.invariant.1 put,
     )
 

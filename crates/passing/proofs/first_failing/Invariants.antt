@@ -11,6 +11,3 @@ use Rattle.passing.proofs.first_failing.Given as goal
 abbrev pub invariant-loop-i : goal.invariant-loop-i
 invariant-loop-i l =
     (passing_of (rest_of (read_order l.list) l.i) ≡ passing_in (read_order l.list)) × (l.cells ≡ l.initial.cells) × (l.numbers ≡ l.initial.numbers)
-
-abbrev pub decreases-loop-i : goal.decreases-loop-i
-decreases-loop-i l = l.count - l.i

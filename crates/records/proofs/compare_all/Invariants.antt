@@ -6,9 +6,6 @@ use Rattle.record_texts.specs.State.{progress_of}
 use Rattle.record_texts.proofs.Texts.{Underway}
 use Rattle.records.proofs.compare_all.Given as goal
 
-abbrev pub invariant-loop-pieces_left : goal.invariant-loop-pieces_left
-invariant-loop-pieces_left g l =
+abbrev pub invariant-loop : goal.invariant-loop
+invariant-loop g l =
     (length l.item ≡ 262144) × (length l.counts ≡ 15) × (l.state.held ≤ 262144) × Underway (progress_of l.state l.item l.counts)
-
-abbrev pub decreases-loop-pieces_left : goal.decreases-loop-pieces_left
-decreases-loop-pieces_left g l = l.pieces_left

@@ -2,7 +2,6 @@
 use mathlib.Core.Path.{◌≡◌, ◌∙◌}
 use Prim.Native.Nat.{◌+◌, ◌-◌}
 use native.Mathlib.Omega.{arith}
-use borrow.Author.Rules.{rules}
 use lib.ListN.{length}
 use Rattle.order.proofs.Failing.{failing_all}
 use Rattle.row_limits.specs.High.{is_below, high_in_row}
@@ -11,7 +10,7 @@ use Rattle.row_limits.proofs.row_in_range.Goals as goal
 pub loop-column-init : goal.loop-column-init
 unfolding high_in_row
 loop-column-init c =
-    let all : length c.args.limits.now - 0 ≡ length c.args.limits.now = omega arith in (search rules, rw all)
+    let all : length c.args.limits.now - 0 ≡ length c.args.limits.now = omega arith in rw all
 
 pub loop-column-preserved : goal.loop-column-preserved
 loop-column-preserved c =
@@ -19,9 +18,7 @@ loop-column-preserved c =
     let at_loop = c.loop-column in
     let below = is_below a.list.now a.start a.limits.now in
     let left = length a.limits.now - at_loop.column in
-    let less : length a.limits.now - (at_loop.column + 1) ≡ left - 1 = omega arith in (
-      search rules,
-      rw less
-          (failing_all below a.start at_loop.all left at_loop.column (omega arith)
-          ∙ at_loop.invariant.1),
-    )
+    let less : length a.limits.now - (at_loop.column + 1) ≡ left - 1 = omega arith in
+    rw less
+    (failing_all below a.start at_loop.all left at_loop.column (omega arith)
+    ∙ at_loop.invariant)

@@ -8,11 +8,11 @@ pub returns-then-cells-eq0 : goal.returns-then-cells-eq0
 returns-then-cells-eq0 c = row_none _ c.if-cells-eq0.true c.put_byte.ensures
 
 pub put_number-after_first-requires : goal.put_number-after_first-requires
-put_number-after_first-requires c = omega (arith, decimal_byte _ (c.shared_slice_known-2-1.given 0).fits)
+put_number-after_first-requires c = omega (arith, decimal_byte _ (c.type_inv.cells 0).fits)
 
 pub end_with_cells-requires : goal.end_with_cells-requires
 end_with_cells-requires c =
-    omega (arith, decimal_byte _ (c.shared_slice_known-2-1.given 0).fits, rest_length c.args.cells.now)
+    omega (arith, decimal_byte _ (c.type_inv.cells 0).fits, rest_length c.args.cells.now)
 
 pub returns : goal.returns
 returns c = row_some _ c.if-cells-eq0.false c.put_number-after_first.ensures c.end_with_cells.ensures

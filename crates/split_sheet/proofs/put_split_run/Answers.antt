@@ -1,5 +1,4 @@
 -- `split_sheet::put_split_run` meets its contract: three pieces, one after the other.
-use mathlib.Core.Path.{sym}
 use Prim.Native.Nat.{◌+◌, ◌≤◌}
 use native.Mathlib.Omega.{arith}
 use lib.ListN.{length, get_or, length-drop}
@@ -10,11 +9,6 @@ use Rattle.split_sheet.specs.Splitting.{give_way, split_run}
 use Rattle.layout.proofs.Bytes.{run_length}
 use Rattle.split_sheet.proofs.Bytes.{part_rest}
 use Rattle.split_sheet.proofs.put_split_run.Goals as goal
-
-pub slice_bounds-put_bytes-end : goal.slice_bounds-put_bytes-end
-slice_bounds-put_bytes-end c =
-    let within : c.args.c ≤ length c.args.run.now = omega (arith, c.requires.c_in_bounds.0) in
-    sym (length-take-le _ _ within)
 
 pub returns : goal.returns
 unfolding split_run give_way

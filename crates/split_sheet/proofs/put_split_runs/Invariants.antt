@@ -1,7 +1,5 @@
--- `split_sheet::put_split_runs` meets its contract. The invariant: the first runs are put, up to `place`, and the next one starts at `start`.
-use mathlib.Core.Path.{◌≡◌}
+-- `split_sheet::put_split_runs` meets its contract. The invariant: the first runs are put, up to `place`.
 use mathlib.Core.List.{flat_map}
-use Prim.Native.Nat.{◌-◌, ◌*◌, ◌≤◌}
 use Rattle.finite.specs.Lists.{from}
 use Rattle.buffers.specs.Put.{Put}
 use Rattle.ingredients.specs.Named.{table_in}
@@ -10,9 +8,4 @@ use Rattle.split_sheet.proofs.put_split_runs.Given as goal
 
 abbrev pub invariant-loop-run : goal.invariant-loop-run
 invariant-loop-run l =
-    (l.run ≤ l.runs)
-    × (l.start ≡ l.run * l.width)
-    × Put l.initial.buf 0 (flat_map (λ r. split_run l.c (table_in l.list l.named) (run_in l.table l.width r)) (from 0 l.run)) l.buf l.place
-
-abbrev pub decreases-loop-run : goal.decreases-loop-run
-decreases-loop-run l = l.runs - l.run
+    Put l.initial.buf 0 (flat_map (λ r. split_run l.c (table_in l.list l.named) (run_in l.table l.width r)) (from 0 l.run)) l.buf l.place

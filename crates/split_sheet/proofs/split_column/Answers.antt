@@ -1,22 +1,14 @@
 -- `split_sheet::split_column` meets its contract: the next sheet is built in the scratch, its level counts beside it, and both are settled.
-use mathlib.Core.Path.{sym}
 use native.Mathlib.Nat.{le_trans}
 use borrow.Author.Rules.{rules}
 use lib.Seq.{length-take-le}
-use Rattle.buffers.proofs.Puts.{put_part}
 use Rattle.ingredients.specs.Named.{table_in}
 use Rattle.layout.proofs.Sheets.{ready_few, ready_used, ready_after, ready_levels_after}
 use Rattle.split_sheet.proofs.Sheet.{on_sheet, row_there, columns_room, cells_room, built_room, built_within, count_room, scratch_after, settled, take_few}
 use Rattle.split_sheet.proofs.split_column.Goals as goal
 
-pub slice_bounds-put_split_levels-end-2 : goal.slice_bounds-put_split_levels-end-2
-slice_bounds-put_split_levels-end-2 c = sym (length-take-le _ _ (ready_few c.requires.ready))
-
 pub overflow_mul-runs : goal.overflow_mul-runs
 overflow_mul-runs c = let room = ready_used c.requires.ready in search rules
-
-pub slice_bounds-settle-end : goal.slice_bounds-settle-end
-slice_bounds-settle-end c = put_part c.put_split_levels-count.ensures
 
 pub put_split_runs-built-requires-clause-c_lt_columns : goal.put_split_runs-built-requires-clause-c_lt_columns
 put_split_runs-built-requires-clause-c_lt_columns c =

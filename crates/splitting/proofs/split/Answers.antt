@@ -1,18 +1,19 @@
 -- `splitting::split` meets its contract: each question's No is the definition's, and the Yes of all is the next sheet.
 use mathlib.Core.Path.{◌≡◌, refl, sym, ◌∙◌, ap}
-use mathlib.Core.Bool.{true}
+use mathlib.Core.Bool.{Bool, true, ◌&&◌}
 use mathlib.Core.List.{List}
 use mathlib.Core.Option.{some}
-use Prim.Native.Nat.{ℕ, ◌+◌, ◌-◌}
+use Prim.Native.Nat.{ℕ}
 use native.Mathlib.Omega.{arith}
 use borrow.Author.Rules.{rules}
-use lib.ListN.{get_or}
-use lib.Seq.{length-take-le}
+use lib.Dec.{eqb, ltb}
+use lib.ListN.{length, get_or, take}
 use lib.IntN.{◌+ℤ◌}
 use mir.Facts.{to_z-of_z}
 use mir.Syntax.{w64}
 use mir.Val.{of_z, to_z}
-use Rattle.counting.specs.Table.{table_of}
+use Rattle.counting.specs.Table.{Table, table_of}
+use Rattle.layout.specs.declared.Size.{Size}
 use Rattle.step_tables.specs.Split.{SplitFits, split_fits}
 use Rattle.step_tables.proofs.StepQuestions.{split_decides}
 use Rattle.spare.specs.Spare.{spare}
@@ -21,7 +22,6 @@ use Rattle.ingredients.specs.declared.named.NamedTable.{NamedTable}
 use Rattle.ingredients.specs.declared.named.NamedTable.TheVariants.{Own, House, Missing}
 use Rattle.layout.specs.Bytes.{sheet_in}
 use Rattle.layout.specs.Step.{Left}
-use Rattle.layout.proofs.Sheets.{ready_few}
 use Rattle.split_sheet.proofs.Sheet.{on_sheet, next_columns}
 use Rattle.splitting.proofs.Answers.{filled_answer, large_answer, next_small, spare_room}
 use Rattle.splitting.proofs.Outcome.{operands_within, column_from_one, legible, small, few_levels, none_named, unfit, over_large, fills}
@@ -33,6 +33,16 @@ unfolding some_table
 some_named list (Own rows width levels_at entries_at) h = refl
 some_named list (House number) h = refl
 some_named list Missing h = absurd (h refl)
+
+-- question 6 as the definition has it
+asked : (place : ℕ) (T : Table) (table levels : List ℕ) (size : Size) {b : Bool}
+    → b ≡ (ltb place (length (take size.columns levels)) && eqb T.runs (get_or (take size.columns levels) place 0))
+    → split_fits place T (sheet_in table levels size) ≡ b
+unfolding split_fits sheet_in table_of
+asked place T table levels size e = sym e
+
+fit_sheet : (place : ℕ) (T S : Table) → split_fits place T S ≡ true → SplitFits place T S
+fit_sheet place T S fit = (split_decides place T S).0 (rw fit tt)
 
 pub overflow_add-at : goal.overflow_add-at
 overflow_add-at c = let within = operands_within c.requires.ready.readable c.requires.stands in search rules
@@ -58,30 +68,21 @@ bounds-list-at-2 c = let within = operands_within c.requires.ready.readable c.re
 pub overflow_sub-c : goal.overflow_sub-c
 overflow_sub-c c = column_from_one c.requires.ready.readable c.requires.stands
 
-pub slice_bounds-parts_fit-end-2 : goal.slice_bounds-parts_fit-end-2
-slice_bounds-parts_fit-end-2 c = sym (length-take-le _ _ (ready_few c.requires.ready))
-
 pub parts_fit-requires : goal.parts_fit-requires
 parts_fit-requires c = legible c.requires.ready.readable c.requires.stands _ c.table_named-named.ensures
 
 pub returns-then-not-parts_fit : goal.returns-then-not-parts_fit
 unfolding Left
 returns-then-not-parts_fit c =
-    -- question 6 as the definition has it
-    let asked : split_fits (get_or c.args.list.now c.args.at 0 - 1) (table_in c.args.list.now c.table_named-named.result) (sheet_in c.args.table.now c.args.levels.now c.args.size) ≡ c.parts_fit.result =
-    unfold split_fits sheet_in table_of in sym c.parts_fit.ensures in
+    let six = asked _ (table_in c.args.list.now c.table_named-named.result) c.args.table.now c.args.levels.now c.args.size c.parts_fit.ensures in
     let ready = c.requires.ready in
-    rw (unfit ready.readable c.requires.stands _ c.table_named-named.ensures _ _ (some_named _ _ c.in_default.not-Missing) (asked ∙ c.if-not-parts_fit.true))
+    rw (unfit ready.readable c.requires.stands _ c.table_named-named.ensures _ _ (some_named _ _ c.in_default.not-Missing) (six ∙ c.if-not-parts_fit.true))
     (record { left = (refl, refl, refl); zeros = ready.scratch_clear })
 
 pub overflow_sub-columns : goal.overflow_sub-columns
 overflow_sub-columns c =
-    -- question 6 as the definition has it
-    let asked : split_fits (get_or c.args.list.now c.args.at 0 - 1) (table_in c.args.list.now c.table_named-named.result) (sheet_in c.args.table.now c.args.levels.now c.args.size) ≡ c.parts_fit.result =
-    unfold split_fits sheet_in table_of in sym c.parts_fit.ensures in
-    let fit = asked ∙ c.if-not-parts_fit.false in
-    let fits : SplitFits (get_or c.args.list.now c.args.at 0 - 1) (table_in c.args.list.now c.table_named-named.result) (sheet_in c.args.table.now c.args.levels.now c.args.size) =
-    (split_decides _ _ _).0 (rw fit tt) in
+    let fit = asked _ (table_in c.args.list.now c.table_named-named.result) c.args.table.now c.args.levels.now c.args.size c.parts_fit.ensures ∙ c.if-not-parts_fit.false in
+    let fits = fit_sheet _ _ _ fit in
     let below = on_sheet c.requires.ready _ _ fits in search rules
 
 pub column_count-requires : goal.column_count-requires
@@ -95,12 +96,8 @@ overflow_add-columns c =
 pub returns-then-columns-gt128 : goal.returns-then-columns-gt128
 unfolding Left
 returns-then-columns-gt128 c =
-    -- question 6 as the definition has it
-    let asked : split_fits (get_or c.args.list.now c.args.at 0 - 1) (table_in c.args.list.now c.table_named-named.result) (sheet_in c.args.table.now c.args.levels.now c.args.size) ≡ c.parts_fit.result =
-    unfold split_fits sheet_in table_of in sym c.parts_fit.ensures in
-    let fit = asked ∙ c.if-not-parts_fit.false in
-    let fits : SplitFits (get_or c.args.list.now c.args.at 0 - 1) (table_in c.args.list.now c.table_named-named.result) (sheet_in c.args.table.now c.args.levels.now c.args.size) =
-    (split_decides _ _ _).0 (rw fit tt) in
+    let fit = asked _ (table_in c.args.list.now c.table_named-named.result) c.args.table.now c.args.levels.now c.args.size c.parts_fit.ensures ∙ c.if-not-parts_fit.false in
+    let fits = fit_sheet _ _ _ fit in
     let ready = c.requires.ready in
     let more = rw c.column_count.ensures at c.if-columns-gt128.true in
     rw (over_large ready.readable c.requires.stands _ c.table_named-named.ensures _ _ (some_named _ _ c.in_default.not-Missing) fit ready.small.runs_most (rw (next_columns ready _ _ fits) more))
@@ -108,12 +105,8 @@ returns-then-columns-gt128 c =
 
 pub split_column-requires : goal.split_column-requires
 split_column-requires c =
-    -- question 6 as the definition has it
-    let asked : split_fits (get_or c.args.list.now c.args.at 0 - 1) (table_in c.args.list.now c.table_named-named.result) (sheet_in c.args.table.now c.args.levels.now c.args.size) ≡ c.parts_fit.result =
-    unfold split_fits sheet_in table_of in sym c.parts_fit.ensures in
-    let fit = asked ∙ c.if-not-parts_fit.false in
-    let fits : SplitFits (get_or c.args.list.now c.args.at 0 - 1) (table_in c.args.list.now c.table_named-named.result) (sheet_in c.args.table.now c.args.levels.now c.args.size) =
-    (split_decides _ _ _).0 (rw fit tt) in
+    let fit = asked _ (table_in c.args.list.now c.table_named-named.result) c.args.table.now c.args.levels.now c.args.size c.parts_fit.ensures ∙ c.if-not-parts_fit.false in
+    let fits = fit_sheet _ _ _ fit in
     let ready = c.requires.ready in
     record {
       ready = ready;
@@ -143,12 +136,8 @@ overflow_add-spare c =
 pub returns : goal.returns
 unfolding Left
 returns c =
-    -- question 6 as the definition has it
-    let asked : split_fits (get_or c.args.list.now c.args.at 0 - 1) (table_in c.args.list.now c.table_named-named.result) (sheet_in c.args.table.now c.args.levels.now c.args.size) ≡ c.parts_fit.result =
-    unfold split_fits sheet_in table_of in sym c.parts_fit.ensures in
-    let fit = asked ∙ c.if-not-parts_fit.false in
-    let fits : SplitFits (get_or c.args.list.now c.args.at 0 - 1) (table_in c.args.list.now c.table_named-named.result) (sheet_in c.args.table.now c.args.levels.now c.args.size) =
-    (split_decides _ _ _).0 (rw fit tt) in
+    let fit = asked _ (table_in c.args.list.now c.table_named-named.result) c.args.table.now c.args.levels.now c.args.size c.parts_fit.ensures ∙ c.if-not-parts_fit.false in
+    let fits = fit_sheet _ _ _ fit in
     let ready = c.requires.ready in
     let found = c.table_named-named.ensures in
     -- the spare degrees of the sheet in hand and of the table: as they are read back, and that their sum has room

@@ -6,10 +6,10 @@ use Rattle.places.proofs.Lookups.{count_is, count_none}
 use Rattle.step_places.specs.StepCount.{step_count}
 use Rattle.step_places.proofs.step_count.Goals as goal
 
-pub returns-in-Is : goal.returns-in-Is
+pub returns-in-Ok : goal.returns-in-Ok
 unfolding steps_start step_count
-returns-in-Is c = count_is steps_of first_step_place (read_order c.args.list.now) (sym c.steps_start.ensures ∙ c.in-Is.is)
+returns-in-Ok c = count_is steps_of first_step_place (read_order c.args.list.now) (sym c.steps_start.ensures ∙ c.in-Ok.is)
 
-pub returns-in-Refused : goal.returns-in-Refused
+pub returns-in-Err : goal.returns-in-Err
 unfolding steps_start step_count
-returns-in-Refused c = count_none steps_of first_step_place (read_order c.args.list.now) (sym c.steps_start.ensures ∙ c.in-Refused.is)
+returns-in-Err c = count_none steps_of first_step_place (read_order c.args.list.now) (sym c.steps_start.ensures ∙ c.in-Err.is)

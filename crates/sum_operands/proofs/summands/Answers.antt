@@ -2,44 +2,20 @@
 use mathlib.Core.Path.{◌≡◌, sym, ◌∙◌, ap}
 use mathlib.Core.Logic.{◌⊎◌, inl, inr}
 use mathlib.Core.Bool.{true, false}
-use Prim.Native.Nat.{◌+◌}
-use native.Mathlib.Omega.{arith}
 use lib.Dec.{ltb}
-use lib.ListN.{get_or}
+use Rattle.std.specs.Prelude.{Some}
 use Rattle.order.specs.Grammar.{read_order}
 use Rattle.places.specs.Places.{matrices_from, adjoined_from}
 use Rattle.step_tables.specs.Lists.{all_of}
 use Rattle.ingredients.specs.Named.{named_table}
 use Rattle.sum_bytes.specs.Summing.{matrix_at, is_missing}
-use Rattle.sum_bytes.specs.declared.Summands.TheVariants.{Named}
 use Rattle.sum_bytes.proofs.Sums.{part_same}
 use Rattle.sum_bytes.proofs.SumNames.{matrix_missing, table_missing, all_there}
 use Rattle.sum_operands.proofs.summands.Goals as goal
 use Rattle.sum_operands.proofs.summands.Goals.{else-last-ne0-via-then-last-ne0+else-is_missing, else-last-ne0-via-else-last-ne0}
 
-pub overflow_add-start : goal.overflow_add-start
-overflow_add-start c = omega (arith, c.requires.within)
-
-pub offset_bounds-list-at : goal.offset_bounds-list-at
-offset_bounds-list-at c = omega (arith, c.requires.within)
-
-pub bounds-list-at : goal.bounds-list-at
-bounds-list-at c = omega (arith, c.requires.within)
-
-pub overflow_add-end : goal.overflow_add-end
-overflow_add-end c = omega (arith, c.requires.within)
-
-pub offset_bounds-list-start : goal.offset_bounds-list-start
-offset_bounds-list-start c = omega (arith, c.requires.within)
-
 pub returns-then-not-all_name_matrices : goal.returns-then-not-all_name_matrices
 returns-then-not-all_name_matrices c = matrix_missing _ _ (sym (c.if-not-all_name_matrices.true) ∙ rw part_same at c.all_name_matrices.ensures)
-
-pub offset_bounds-list-end : goal.offset_bounds-list-end
-offset_bounds-list-end c = omega (arith, c.requires.within)
-
-pub bounds-list-end : goal.bounds-list-end
-bounds-list-end c = c.requires.within
 
 pub returns-then-is_missing : goal.returns-then-is_missing
 returns-then-is_missing c =
@@ -60,4 +36,4 @@ returns c =
       | else-last-ne0-via-else-last-ne0 w ↦ inl w.if-last-ne0.false
     ]
     in
-    ap (λ t. Named t) c.table_named-k.ensures ∙ all_there _ _ named either
+    ap Some c.table_named-k.ensures ∙ all_there _ _ named either

@@ -1,25 +1,19 @@
--- `sum_questions::all_served` meets its contract. The invariant: the first `j` level counts are served.
-use native.Mathlib.Omega.{arith}
+-- `sum_questions::all_served` meets its contract: what `all` asks of each level count is the test of the definition.
+use Rattle.std.proofs.Common.{◌<◌, ◌∙◌, rules, tests, ltb, length, get_or}
+use Rattle.std.proofs.iter.Serving.{serving}
+use Rattle.std.proofs.lemmas.List.Elements.{All-from_get_or}
+use Rattle.std.proofs.lemmas.Iterator.{YieldsList-from_slice}
+use Rattle.std.proofs.lemmas.Iterator.Search.{all_from_yields_List}
 use Rattle.finite.specs.Lists.{AllBelow}
-use Rattle.sum_bytes.proofs.Pieces.{passing_none, passing_more, passing_all, passing_fails, positive_true, positive_false}
+use Rattle.sum_bytes.proofs.Pieces.{all_of_is}
 use Rattle.sum_questions.proofs.all_served.Goals as goal
 
-pub loop-j-init : goal.loop-j-init
-loop-j-init c = passing_none _ _
-
-pub overflow_cast-levels : goal.overflow_cast-levels
-overflow_cast-levels c = omega (arith, c.shared_slice_known-1.given c.loop-j.j)
-
-pub bounds-widths-levels : goal.bounds-widths-levels
+pub all-requires-clause-callable : goal.all-requires-clause-callable
 unfolding AllBelow
-bounds-widths-levels c = c.requires c.loop-j.j c.loop-j-test.true
-
-pub returns-then-widths-levels-eq0 : goal.returns-then-widths-levels-eq0
-returns-then-widths-levels-eq0 c = passing_fails c.loop-j.invariant c.loop-j-test.true (positive_false c.if-widths-levels-eq0.true)
-
-pub loop-j-preserved : goal.loop-j-preserved
-loop-j-preserved c =
-    passing_more c.loop-j.invariant c.loop-j-test.true (positive_true c.if-widths-levels-eq0.false)
+all-requires-clause-callable c =
+    let each = All-from_get_or (λ s. s < length c.args.widths.now) c.args.levels.now 0 c.requires in grind (serving, each)
 
 pub returns : goal.returns
-returns c = passing_all c.loop-j.invariant c.loop-j-test.false
+returns c =
+    all_from_yields_List (λ s. ltb 0 (get_or c.args.widths.now s 0)) _ _ _ c.all.ensures.ran (YieldsList-from_slice c.args.levels.now cc) (λ x b q k. search (rules, tests))
+    ∙ all_of_is _ c.args.levels.now

@@ -6,11 +6,6 @@ use Rattle.sum_questions.proofs.parts_fit.Goals as goal
 pub returns-then-not-serve-clause-value : goal.returns-then-not-serve-clause-value
 returns-then-not-serve-clause-value c = matrices_misfit _ _ _ _ (sym (c.if-not-serve.true) ∙ c.serve.ensures.value)
 
-pub all_served-requires : goal.all_served-requires
-all_served-requires c =
-    let served = c.serve.ensures.serves c.if-not-serve.false in
-    rw served.stand.widths_full c.requires.all_below
-
 pub returns-then-not-all_served-clause-value : goal.returns-then-not-all_served-clause-value
 returns-then-not-all_served-clause-value c =
     let served = c.serve.ensures.serves c.if-not-serve.false in

@@ -3,7 +3,6 @@ use Prim.Native.Nat.{◌<◌}
 use native.Mathlib.Omega.{arith}
 use lib.ListN.{get_or}
 use Rattle.finite.specs.Lists.{AllBelow}
-use Rattle.buffers.proofs.Puts.{put_length}
 use Rattle.sum_tables.proofs.Tables.{summable}
 use Rattle.sum_bytes.specs.Summing.{summed_cells, summed_run}
 use Rattle.sum_bytes.proofs.Pieces.{pieces_none, below_room, below_next, below_all}
@@ -13,9 +12,6 @@ use Rattle.summed_run.proofs.put_summed_run.Goals as goal
 pub loop-j-init : goal.loop-j-init
 loop-j-init c = pieces_none _ _ _ _ (omega arith)
 
-pub overflow_cast-s : goal.overflow_cast-s
-overflow_cast-s c = omega (arith, c.shared_slice_known-in-loop-j-1.given c.loop-j.j)
-
 pub bounds-widths-s : goal.bounds-widths-s
 unfolding AllBelow
 bounds-widths-s c =
@@ -24,17 +20,6 @@ bounds-widths-s c =
     in
     omega (arith, level_below, c.requires.row_stands.widths_full)
 
-pub overflow_cast-width : goal.overflow_cast-width
-overflow_cast-width c = omega (arith, c.shared_slice_known-in-loop-j-2-1.given (get_or c.args.levels.now c.loop-j.j 0))
-
-pub offset_bounds-entries-s : goal.offset_bounds-entries-s
-unfolding AllBelow
-offset_bounds-entries-s c =
-    let level_below : (get_or c.args.levels.now c.loop-j.j 0) < 65 =
-    c.requires.run_stands.few c.loop-j.j c.loop-j-test.true
-    in
-    omega (arith, level_below)
-
 pub bounds-entries-s : goal.bounds-entries-s
 unfolding AllBelow
 bounds-entries-s c =
@@ -42,25 +27,6 @@ bounds-entries-s c =
     c.requires.run_stands.few c.loop-j.j c.loop-j-test.true
     in
     omega (arith, level_below, c.requires.row_stands.entries_full)
-
-pub overflow_cast-start : goal.overflow_cast-start
-overflow_cast-start c = omega (arith, c.shared_slice_known-in-loop-j-3-1.given (get_or c.args.levels.now c.loop-j.j 0))
-
-pub overflow_mul-start : goal.overflow_mul-start
-overflow_mul-start c = omega (arith, c.requires.row_stands.within (get_or c.args.levels.now c.loop-j.j 0))
-
-pub overflow_add-start : goal.overflow_add-start
-overflow_add-start c = omega (arith, c.requires.row_stands.within (get_or c.args.levels.now c.loop-j.j 0))
-
-pub overflow_add-end : goal.overflow_add-end
-overflow_add-end c = omega (arith, c.requires.row_stands.within (get_or c.args.levels.now c.loop-j.j 0))
-
-pub bounds-cells-j : goal.bounds-cells-j
-bounds-cells-j c =
-    omega (arith, c.requires.run_stands.whole, c.loop-j-test.true)
-
-pub offset_bounds-list-start : goal.offset_bounds-list-start
-offset_bounds-list-start c = omega (arith, c.requires.row_stands.within (get_or c.args.levels.now c.loop-j.j 0))
 
 pub put_sums-place-requires : goal.put_sums-place-requires
 unfolding summed_run
@@ -80,9 +46,6 @@ pub loop-j-preserved : goal.loop-j-preserved
 unfolding summed_cells
 loop-j-preserved c =
     below_next c.loop-j.invariant c.loop-j-test.true (rw row_part at c.put_sums-place.ensures)
-
-pub shape_of-buf : goal.shape_of-buf
-shape_of-buf c = put_length c.loop-j.invariant.put
 
 pub returns : goal.returns
 unfolding summed_run

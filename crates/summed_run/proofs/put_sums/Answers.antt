@@ -27,45 +27,6 @@ put_each f g xs {a} {b} {i} {j} agree put =
     get_d_map f xs below ∙ agree k below ∙ sym (get_d_map g xs below)))
     put
 
-pub overflow_mul-start-then-over_field : goal.overflow_mul-start-then-over_field
-overflow_mul-start-then-over_field c =
-    let row_end : c.args.p * 81
-    + c.args.level * c.args.p
-    + c.args.p
-    ≤ 810 =
-    let over : T (over_field c.args.p) =
-    subst T (sym c.if-over_field.true ∙ c.over_field.ensures) tt
-    in
-    row_within _ over c.requires.level_lt_p.0
-    in
-    omega (arith, row_end)
-
-pub overflow_add-start : goal.overflow_add-start
-overflow_add-start c =
-    let row_end : c.args.p * 81
-    + c.args.level * c.args.p
-    + c.args.p
-    ≤ 810 =
-    let over : T (over_field c.args.p) =
-    subst T (sym c.if-over_field.true ∙ c.over_field.ensures) tt
-    in
-    row_within _ over c.requires.level_lt_p.0
-    in
-    omega (arith, row_end)
-
-pub overflow_add-end : goal.overflow_add-end
-overflow_add-end c =
-    let row_end : c.args.p * 81
-    + c.args.level * c.args.p
-    + c.args.p
-    ≤ 810 =
-    let over : T (over_field c.args.p) =
-    subst T (sym c.if-over_field.true ∙ c.over_field.ensures) tt
-    in
-    row_within _ over c.requires.level_lt_p.0
-    in
-    omega (arith, row_end)
-
 pub slice_bounds-put_looked_up-end : goal.slice_bounds-put_looked_up-end
 slice_bounds-put_looked_up-end c =
     let over : T (over_field c.args.p) = subst T (sym c.if-over_field.true ∙ c.over_field.ensures) tt in

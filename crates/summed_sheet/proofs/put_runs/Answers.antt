@@ -7,33 +7,11 @@ use Rattle.counting.specs.Table.{columns}
 use Rattle.ingredients.specs.Named.{table_in}
 use Rattle.sum_bytes.specs.Summing.{summed_run, built_run, Adjoins}
 use Rattle.sum_bytes.proofs.Pieces.{pieces_none, below_room, below_next, below_all}
-use Rattle.sum_bytes.proofs.Sums.{rows_positive, run_below, row_below, row_stands, run_stands, run_within, part_same, built_length}
+use Rattle.sum_bytes.proofs.Sums.{run_below, row_below, row_stands, run_stands, run_within, part_same, built_length}
 use Rattle.summed_sheet.proofs.put_runs.Goals as goal
 
 pub loop-r-init : goal.loop-r-init
 loop-r-init c = pieces_none _ _ _ _ (omega arith)
-
-pub nonzero_rem-row : goal.nonzero_rem-row
-nonzero_rem-row c = rows_positive _ _ _ c.loop-r-test.true
-
-pub nonzero_div-start : goal.nonzero_div-start
-nonzero_div-start c = rows_positive _ _ _ c.loop-r-test.true
-
-pub overflow_mul-start : goal.overflow_mul-start
-overflow_mul-start c =
-    let sheet_run : c.loop-r.r / c.args.rows * length c.args.levels.now + length c.args.levels.now
-    ≤ length c.args.table.now =
-    run_within c.requires.sheet_stands _ (run_below _ _ _ c.loop-r-test.true)
-    in
-    omega (arith, sheet_run)
-
-pub overflow_add-end : goal.overflow_add-end
-overflow_add-end c =
-    let sheet_run : c.loop-r.r / c.args.rows * length c.args.levels.now + length c.args.levels.now
-    ≤ length c.args.table.now =
-    run_within c.requires.sheet_stands _ (run_below _ _ _ c.loop-r-test.true)
-    in
-    omega (arith, sheet_run)
 
 pub slice_bounds-put_summed_run-end : goal.slice_bounds-put_summed_run-end
 slice_bounds-put_summed_run-end c = run_within c.requires.sheet_stands _ (run_below _ _ _ c.loop-r-test.true)
@@ -56,10 +34,6 @@ put_summed_run-place-requires-clause-cells_in_bounds c =
     in
     rw part_same (omega (arith, room))
 
-pub put_run-place-requires-clause-legible : goal.put_run-place-requires-clause-legible
-put_run-place-requires-clause-legible c =
-    c.requires.legible.0
-
 pub put_run-place-requires-clause-run_bound : goal.put_run-place-requires-clause-run_bound
 unfolding Adjoins
 put_run-place-requires-clause-run_bound c =
@@ -75,17 +49,11 @@ put_run-place-requires-clause-table_in_bounds c =
     in
     let put = rw part_same at c.put_summed_run-place.ensures in omega (arith, room, put.ends, put_length put)
 
-pub overflow_add-r : goal.overflow_add-r
-overflow_add-r c = omega (arith, c.loop-r-test.true, c.requires.rows_bound.0)
-
 pub loop-r-preserved : goal.loop-r-preserved
 unfolding built_run
 loop-r-preserved c =
     below_next c.loop-r.invariant c.loop-r-test.true
     (put_join (rw part_same at c.put_summed_run-place.ensures) c.put_run-place.ensures)
-
-pub shape_of-buf : goal.shape_of-buf
-shape_of-buf c = put_length c.loop-r.invariant.put
 
 pub returns : goal.returns
 returns c = below_all c.loop-r.invariant c.loop-r-test.false

@@ -1,51 +1,29 @@
--- `summed_sheet::summed_columns` meets its contract. The invariant: the columns of the first `j` level counts are counted.
-use mathlib.Core.Path.{sym}
-use Prim.Native.Nat.{◌≤◌}
-use native.Mathlib.Omega.{arith}
-use lib.ListN.{get_or, length-replicate}
+-- `summed_sheet::summed_columns` meets its contract: each level count gives as many summed columns as the matrix that serves it has.
+use Rattle.std.proofs.Common.{◌≡◌, ◌<◌, ◌∙◌, sym, get_or, length, replicate, rules, arith}
+use Rattle.std.proofs.iter.Serving.{serving}
+use Rattle.std.proofs.iter.runs.Made.{chains}
+use Rattle.std.proofs.lemmas.List.{length-replicate}
+use Rattle.std.proofs.lemmas.List.Elements.{All-from_get_or}
+use Rattle.std.proofs.lemmas.List.Sums.{sum_by-le}
+use Rattle.std.specs.List.{sum_by}
 use Rattle.finite.specs.Lists.{AllBelow}
 use Rattle.sum_bytes.specs.Summing.{summed_levels}
-use Rattle.sum_bytes.proofs.Pieces.{counted_none, counted_next, counted_all}
+use Rattle.sum_bytes.proofs.Pieces.{pieces_length}
 use Rattle.summed_sheet.proofs.summed_columns.Goals as goal
 
-pub loop-j-init : goal.loop-j-init
-loop-j-init c = (counted_none _ _, omega arith, omega arith)
-
-pub overflow_cast-total : goal.overflow_cast-total
-overflow_cast-total c = omega (arith, c.shared_slice_known-1.given c.loop-j.j)
-
-pub bounds-widths-levels : goal.bounds-widths-levels
+pub sum-requires-clause-can : goal.sum-requires-clause-can
 unfolding AllBelow
-bounds-widths-levels c =
-    c.requires.0 c.loop-j.j c.loop-j-test.true
+sum-requires-clause-can c =
+    let each = All-from_get_or (λ s. s < length c.args.widths.now) c.args.levels.now 0 c.requires.0 in (tt, grind (serving, each))
 
-pub overflow_cast-total-in-loop-j : goal.overflow_cast-total-in-loop-j
-overflow_cast-total-in-loop-j c =
-    let small : get_or c.args.widths.now (get_or c.args.levels.now c.loop-j.j 0) 0
-    ≤ 255 =
-    omega (arith, c.shared_slice_known-in-loop-j-1.given (get_or c.args.levels.now c.loop-j.j 0))
-    in
-    omega (arith, small)
-
-pub overflow_add-total : goal.overflow_add-total
-overflow_add-total c =
-    let small : get_or c.args.widths.now (get_or c.args.levels.now c.loop-j.j 0) 0
-    ≤ 255 =
-    omega (arith, c.shared_slice_known-in-loop-j-1.given (get_or c.args.levels.now c.loop-j.j 0))
-    in
-    omega (arith, small)
-
-pub loop-j-preserved : goal.loop-j-preserved
-loop-j-preserved c =
-    let small : get_or c.args.widths.now (get_or c.args.levels.now c.loop-j.j 0) 0
-    ≤ 255 =
-    omega (arith, c.shared_slice_known-in-loop-j-1.given (get_or c.args.levels.now c.loop-j.j 0))
-    in (
-      counted_next c.loop-j.invariant.0 c.loop-j-test.true (sym (length-replicate _ _)),
-      omega (arith, small),
-      omega arith,
-    )
+total : (c : goal.After-sum) → c.sum.result ≡ sum_by (λ s. get_or c.args.widths.now s 0) c.args.levels.now
+total c = search (rules, chains)
 
 pub returns-clause-value : goal.returns-clause-value
 unfolding summed_levels
-returns-clause-value c = counted_all c.loop-j.invariant.0 c.loop-j-test.false
+returns-clause-value c =
+    total c ∙ pieces_length (λ s. replicate (get_or c.args.widths.now s 0) s) (λ s. get_or c.args.widths.now s 0) (λ s. sym (length-replicate _ _)) c.args.levels.now
+
+pub returns-clause-upper_bound : goal.returns-clause-upper_bound
+returns-clause-upper_bound c =
+    omega (arith, total c, sum_by-le (λ s. get_or c.args.widths.now s 0) 255 c.args.levels.now (λ k d h. omega (arith, c.type_inv.widths (get_or c.args.levels.now k d))))

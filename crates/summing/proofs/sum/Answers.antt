@@ -53,29 +53,29 @@ offset_bounds-list-start c =
 pub fitting_sum-requires-clause-ds_nonzero : goal.fitting_sum-requires-clause-ds_nonzero
 fitting_sum-requires-clause-ds_nonzero c =
     let operands = operands_known c.requires.ready.readable c.requires.stands in
-    let all = summands_named c.requires.ready.readable operands (sym c.in-Named.is ∙ c.summands.ensures) in
+    let all = summands_named c.requires.ready.readable operands (sym c.in-Some.is ∙ c.summands.ensures) in
     rw part_same (all.some_matrices, all.first)
 
 pub fitting_sum-requires-clause-legible : goal.fitting_sum-requires-clause-legible
 fitting_sum-requires-clause-legible c =
     let operands = operands_known c.requires.ready.readable c.requires.stands in
-    let all = summands_named c.requires.ready.readable operands (sym c.in-Named.is ∙ c.summands.ensures) in
+    let all = summands_named c.requires.ready.readable operands (sym c.in-Some.is ∙ c.summands.ensures) in
     (all.legible, all.narrow)
 
-pub returns-in-Missing-clause-left : goal.returns-in-Missing-clause-left
-returns-in-Missing-clause-left c =
+pub returns-in_default-clause-left : goal.returns-in_default-clause-left
+returns-in_default-clause-left c =
     let operands : SumOperands c.args.list.now c.args.at =
     operands_known c.requires.ready.readable c.requires.stands
     in left_unnamed c.requires.ready.readable c.args.at c.args.number (sheet_in c.args.table.now c.args.levels.now c.args.size) _ _ operands
-    (sym c.in-Missing.is ∙ c.summands.ensures)
+    (sym c.in_default.is ∙ c.summands.ensures)
 
-pub returns-in-Named-clause-left : goal.returns-in-Named-clause-left
-returns-in-Named-clause-left c =
-    let named : AllNamed c.requires.ready.readable c.args.at c.in-Named.k =
+pub returns-clause-left : goal.returns-clause-left
+returns-clause-left c =
+    let named : AllNamed c.requires.ready.readable c.args.at c.in-Some.k =
     let operands : SumOperands c.args.list.now c.args.at =
     operands_known c.requires.ready.readable c.requires.stands
     in
-    summands_named c.requires.ready.readable operands (sym c.in-Named.is ∙ c.summands.ensures)
+    summands_named c.requires.ready.readable operands (sym c.in-Some.is ∙ c.summands.ensures)
     in
     let made = c.fitting_sum in left_named c.requires.ready.readable c.args.at c.args.number (sheet_in c.args.table.now c.args.levels.now c.args.size) _ _ named made.result _ _
     (rw part_same at made.ensures.left)

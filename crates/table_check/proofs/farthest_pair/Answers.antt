@@ -1,19 +1,12 @@
 -- `farthest_pair` meets its contract: the pair with the number that is farthest off has its two levels by a division, and its columns are named from 1.
 -- Assumes nothing.
 use native.Mathlib.Nat.{lt_trans}
-use native.Mathlib.Omega.{arith}
 use borrow.Author.Rules.{sfits_of}
 use mir.Facts.{to_z-of_z}
 use mir.Syntax.{w64}
 use Rattle.finite.proofs.Fits.{product_fits}
 use Rattle.table_check.proofs.TableKeys.{pair_keyed, pair_farthest}
 use Rattle.table_check.proofs.farthest_pair.Goals as goal
-
-pub overflow_cast-s : goal.overflow_cast-s
-overflow_cast-s c = omega (arith, c.shared_slice_known-3-1.given c.args.pair.first)
-
-pub overflow_cast-t : goal.overflow_cast-t
-overflow_cast-t c = omega (arith, c.shared_slice_known-4-1.given c.args.pair.second)
 
 pub overflow_mul-s : goal.overflow_mul-s
 overflow_mul-s c =
@@ -22,12 +15,6 @@ overflow_mul-s c =
 pub farthest_levels-farthest-requires : goal.farthest_levels-farthest-requires
 farthest_levels-farthest-requires c =
     pair_keyed _ _ _ c.requires.checkable_table _ _ (lt_trans c.requires.first_lt_second.0 c.requires.first_lt_second.1) c.requires.first_lt_second.1
-
-pub nonzero_div-result : goal.nonzero_div-result
-nonzero_div-result c = omega (arith, c.requires.checkable_table.levels_from c.args.pair.second c.requires.first_lt_second.1)
-
-pub nonzero_rem-result : goal.nonzero_rem-result
-nonzero_rem-result c = omega (arith, c.requires.checkable_table.levels_from c.args.pair.second c.requires.first_lt_second.1)
 
 pub returns : goal.returns
 returns c =

@@ -2,7 +2,7 @@
 -- Assumes nothing.
 use mathlib.Core.Path.{◌≡◌}
 use mathlib.Core.Option.{none}
-use Prim.Native.Nat.{ℕ, ◌-◌, ◌≤◌, ◌<◌}
+use Prim.Native.Nat.{ℕ, ◌<◌}
 use lib.ListN.{length}
 use Rattle.counting.specs.Table.{table_of}
 use Rattle.counting.specs.Verdict.{column_fault}
@@ -11,10 +11,6 @@ use Rattle.table_check.proofs.uneven_column.Given as goal
 
 abbrev pub invariant-loop-column : goal.invariant-loop-column
 invariant-loop-column l =
-    (l.column ≤ length l.levels)
-    × (length l.counters ≡ length l.initial.counters)
+    (length l.counters ≡ length l.initial.counters)
     × Cleared l.counters
     × ((k : ℕ) → k < l.column → column_fault (table_of l.cells l.levels l.runs) k ≡ none)
-
-abbrev pub decreases-loop-column : goal.decreases-loop-column
-decreases-loop-column l = length l.levels - l.column

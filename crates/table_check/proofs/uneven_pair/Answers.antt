@@ -5,26 +5,17 @@ use mathlib.Core.Option.{map}
 use native.Mathlib.Nat.{lt_trans}
 use native.Mathlib.Omega.{arith}
 use lib.IntN.{pos}
+use Rattle.std.specs.Prelude.{Ok}
 use Rattle.finite.proofs.Fits.{product_fits}
-use Rattle.finite.proofs.PairOrder.{searched_start, searched_next, searched_none, searched_at, searched_few, searched_all, left, left_falls}
+use Rattle.finite.proofs.PairOrder.{searched_start, searched_next, searched_none, searched_at, searched_few, searched_all, left_falls}
 use Rattle.counting.specs.Table.{table_of}
 use Rattle.counting.specs.Verdict.{pairs_fault, verdict_of}
-use Rattle.counting.specs.declared.verdict.TableFinding.TheVariants.{Passes}
-use Rattle.tally.proofs.Tallies.{at_some, nowhere_none}
+use Rattle.tally.proofs.Tallies.{nowhere_none, some_found, none_left}
 use Rattle.table_check.proofs.TableKeys.{pair_keyed, pair_deviation_lem}
 use Rattle.table_check.proofs.uneven_pair.Goals as goal
 
 pub loop-pair-init : goal.loop-pair-init
 loop-pair-init c = (refl, c.requires.cleared, rw c.start-pair.ensures (searched_start _ _))
-
-pub bounds-levels-first : goal.bounds-levels-first
-bounds-levels-first c = lt_trans c.loop-pair.invariant.2.ordered c.loop-pair-test.true
-
-pub overflow_cast-s : goal.overflow_cast-s
-overflow_cast-s c = omega (arith, c.type_inv.levels c.loop-pair.pair.first)
-
-pub overflow_cast-t : goal.overflow_cast-t
-overflow_cast-t c = omega (arith, c.type_inv.levels c.loop-pair.pair.second)
 
 pub overflow_mul-s : goal.overflow_mul-s
 overflow_mul-s c =
@@ -49,25 +40,26 @@ levels_deviation-requires-clause-keyed c =
     let l = c.loop-pair in
     let taken = c.loop-pair-test.true in pair_keyed _ _ _ c.requires.checkable_table _ _ (lt_trans l.invariant.2.ordered taken) taken
 
-pub returns-in-At : goal.returns-in-At
+pub returns-then-is_some : goal.returns-then-is_some
 unfolding pairs_fault table_of
-returns-in-At c =
+returns-then-is_some c =
     let l = c.loop-pair in
     let taken = c.loop-pair-test.true in
-    let found = c.levels_deviation.ensures.value in
+    let found = some_found _ c.levels_deviation.ensures.value (sym c.is_some.ensures ∙ c.if-is_some.true) in
     c.farthest_pair.ensures
     ∙ sym (ap (verdict_of (table_of c.args.cells.now c.args.levels.now c.args.runs)) (searched_at _ _ l.pair _ l.invariant.2 taken
-    (ap (map _) (sym (pair_deviation_lem _ _ _ c.requires.checkable_table _ _ taken) ∙ at_some _ _ _ (sym c.in-At.is ∙ found)))))
+    (ap (map _) (sym (pair_deviation_lem _ _ _ c.requires.checkable_table _ _ taken) ∙ found.1))))
 
 pub loop-pair-preserved : goal.loop-pair-preserved
 loop-pair-preserved c =
     let l = c.loop-pair in
     let taken = c.loop-pair-test.true in
-    let called = c.levels_deviation in (
+    let called = c.levels_deviation in
+    let nothing = none_left called.result (sym c.is_some.ensures ∙ c.if-is_some.false) in (
       called.auto.counters ∙ l.invariant.0,
-      called.ensures.cleared_2 c.in-Nowhere.is,
+      called.ensures.cleared_2 nothing,
       rw c.next-pair.ensures (searched_next _ _ l.pair l.invariant.2 taken
-          (ap (map _) (sym (pair_deviation_lem _ _ _ c.requires.checkable_table _ _ taken) ∙ nowhere_none _ (sym c.in-Nowhere.is ∙ called.ensures.value)))),
+          (ap (map _) (sym (pair_deviation_lem _ _ _ c.requires.checkable_table _ _ taken) ∙ nowhere_none _ (sym nothing ∙ called.ensures.value)))),
     )
 
 pub returns : goal.returns
@@ -75,5 +67,5 @@ unfolding pairs_fault table_of
 returns c =
     let l = c.loop-pair in
     let left = c.loop-pair-test.false in
-    ap (λ k. record { finding = Passes; gap = pos 0; pairs = k }) (omega (arith, searched_all _ _ l.pair l.invariant.2 left))
+    ap (λ k. record { finding = Ok tt; gap = pos 0; pairs = k }) (omega (arith, searched_all _ _ l.pair l.invariant.2 left))
     ∙ sym (ap (verdict_of (table_of c.args.cells.now c.args.levels.now c.args.runs)) (searched_none _ _ l.pair l.invariant.2 left))

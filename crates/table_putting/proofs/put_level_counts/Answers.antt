@@ -1,8 +1,6 @@
 -- `table_putting::put_level_counts` meets its contract. The invariant: the level counts of the first columns are put, up to `place`.
 use mathlib.Core.Path.{◌≡◌}
 use native.Mathlib.Omega.{arith}
-use borrow.Author.Rules.{rules}
-use Rattle.buffers.proofs.Puts.{put_length}
 use Rattle.counting.specs.Table.{columns}
 use Rattle.ingredients.specs.Named.{table_in}
 use Rattle.step_tables.proofs.Lists.{map_get_d}
@@ -10,20 +8,16 @@ use Rattle.layout.proofs.Rows.{values_none, values_next, values_room}
 use Rattle.table_putting.proofs.put_level_counts.Goals as goal
 
 pub loop-column-init : goal.loop-column-init
-loop-column-init c = (search rules, values_none _ (omega arith))
+loop-column-init c = values_none _ (omega arith)
 
 pub put_byte-place-requires : goal.put_byte-place-requires
 put_byte-place-requires c =
-    values_room _ _ _ c.loop-column.invariant.1 c.loop-column-test.true (rw c.column_count-width.ensures c.requires.table_in_bounds)
+    values_room _ _ _ c.loop-column.invariant c.loop-column-test.true (rw c.column_count-width.ensures c.requires.table_in_bounds)
 
 pub loop-column-preserved : goal.loop-column-preserved
-loop-column-preserved c =
-    (omega arith, values_next _ c.loop-column.invariant.1 (rw c.level_count.ensures at c.put_byte-place.ensures))
-
-pub shape_of-buf : goal.shape_of-buf
-shape_of-buf c = put_length c.loop-column.invariant.1
+loop-column-preserved c = values_next _ c.loop-column.invariant (rw c.level_count.ensures at c.put_byte-place.ensures)
 
 pub returns : goal.returns
 returns c =
-    let all : c.loop-column.column ≡ columns (table_in c.args.list.now c.args.table) = omega (arith, c.column_count-width.ensures, c.loop-column.invariant.0, c.loop-column-test.false) in
-    rw (all, map_get_d (table_in c.args.list.now c.args.table).levels 0) at c.loop-column.invariant.1
+    let all : c.loop-column.column ≡ columns (table_in c.args.list.now c.args.table) = omega (arith, c.column_count-width.ensures) in
+    rw (all, map_get_d (table_in c.args.list.now c.args.table).levels 0) at c.loop-column.invariant

@@ -4,10 +4,10 @@ use mathlib.Core.Path.{sym, ◌∙◌, ap}
 use Rattle.written_table.specs.CheckInNumbers.{check_numbers}
 use Rattle.written_check.proofs.check_numbers.Goals as goal
 
-pub returns-in-AllPass : goal.returns-in-AllPass
+pub returns-in-Ok : goal.returns-in-Ok
 unfolding check_numbers
-returns-in-AllPass c = sym (ap check_numbers c.in-AllPass.is)
+returns-in-Ok c = sym (ap check_numbers c.in-Ok.is)
 
-pub returns-in-Refused : goal.returns-in-Refused
+pub returns-in-Err : goal.returns-in-Err
 unfolding check_numbers
-returns-in-Refused c = c.numbers_of.ensures ∙ sym (ap check_numbers c.in-Refused.is)
+returns-in-Err c = c.numbers_of.ensures ∙ sym (ap check_numbers c.in-Err.is)

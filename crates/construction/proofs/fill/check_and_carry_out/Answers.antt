@@ -27,35 +27,35 @@ pub carry_or_clear-requires-clause-passing : goal.carry_or_clear-requires-clause
 carry_or_clear-requires-clause-passing c =
     let pre = c.requires in
     let kept = c.first_failing.auto in
-    let found = sym c.first_failing.ensures.value ∙ c.in-AllPass.is in all_pass pre.readable found
+    let found = sym c.first_failing.ensures.value ∙ c.in-Ok.is in all_pass pre.readable found
 
 pub carry_or_clear-requires-clause-long_enough : goal.carry_or_clear-requires-clause-long_enough
 carry_or_clear-requires-clause-long_enough c =
     let pre = c.requires in
     let kept = c.first_failing.auto in
-    let found = sym c.first_failing.ensures.value ∙ c.in-AllPass.is in long_kept pre.long_enough refl kept.numbers kept.cells
+    let found = sym c.first_failing.ensures.value ∙ c.in-Ok.is in long_kept pre.long_enough refl kept.numbers kept.cells
 
 pub carry_or_clear-requires-clause-zeros : goal.carry_or_clear-requires-clause-zeros
 carry_or_clear-requires-clause-zeros c =
     let pre = c.requires in
     let kept = c.first_failing.auto in
-    let found = sym c.first_failing.ensures.value ∙ c.in-AllPass.is in (pre.zeros.0, zeros_all (length c.args.levels.now) c.first_failing.ensures.numbers_after, zeros_all (length c.args.scratch.now) c.first_failing.ensures.cells_after)
+    let found = sym c.first_failing.ensures.value ∙ c.in-Ok.is in (pre.zeros.0, zeros_all (length c.args.levels.now) c.first_failing.ensures.numbers_after, zeros_all (length c.args.scratch.now) c.first_failing.ensures.cells_after)
 
-pub returns-in-AllPass-clause-settled : goal.returns-in-AllPass-clause-settled
-returns-in-AllPass-clause-settled c =
+pub returns-in-Ok-clause-settled : goal.returns-in-Ok-clause-settled
+returns-in-Ok-clause-settled c =
     let pre = c.requires in
-    let found = sym c.first_failing.ensures.value ∙ c.in-AllPass.is in rw (passed_all pre.readable found) c.carry_or_clear.ensures.settled
+    let found = sym c.first_failing.ensures.value ∙ c.in-Ok.is in rw (passed_all pre.readable found) c.carry_or_clear.ensures.settled
 
-pub returns-in-AllPass-clause-zeros_2 : goal.returns-in-AllPass-clause-zeros_2
-returns-in-AllPass-clause-zeros_2 c =
+pub returns-in-Ok-clause-zeros_2 : goal.returns-in-Ok-clause-zeros_2
+returns-in-Ok-clause-zeros_2 c =
     let pre = c.requires in
-    let found = sym c.first_failing.ensures.value ∙ c.in-AllPass.is in c.carry_or_clear.ensures.zeros_2
+    let found = sym c.first_failing.ensures.value ∙ c.in-Ok.is in c.carry_or_clear.ensures.zeros_2
 
-pub returns-in-Refused-clause-settled : goal.returns-in-Refused-clause-settled
-returns-in-Refused-clause-settled c =
-    let found = sym c.first_failing.ensures.value ∙ c.in-Refused.is in settled_zeros (passed_refused c.requires.readable _ found) c.requires.zeros.0
+pub returns-in-Err-clause-settled : goal.returns-in-Err-clause-settled
+returns-in-Err-clause-settled c =
+    let found = sym c.first_failing.ensures.value ∙ c.in-Err.is in settled_zeros (passed_refused c.requires.readable _ found) c.requires.zeros.0
     (zeros_all (length c.args.levels.now) c.first_failing.ensures.numbers_after)
 
-pub returns-in-Refused-clause-zeros_2 : goal.returns-in-Refused-clause-zeros_2
-returns-in-Refused-clause-zeros_2 c =
-    let found = sym c.first_failing.ensures.value ∙ c.in-Refused.is in zeros_all (length c.args.scratch.now) c.first_failing.ensures.cells_after
+pub returns-in-Err-clause-zeros_2 : goal.returns-in-Err-clause-zeros_2
+returns-in-Err-clause-zeros_2 c =
+    let found = sym c.first_failing.ensures.value ∙ c.in-Err.is in zeros_all (length c.args.scratch.now) c.first_failing.ensures.cells_after

@@ -9,18 +9,14 @@ pub returns-then-i-le104 : goal.returns-then-i-le104
 unfolding named_table
 returns-then-i-le104 c = grind (arith, common_steps)
 
-pub returns-in-Table : goal.returns-in-Table
+pub returns-in-Some-Table : goal.returns-in-Some-Table
 unfolding named_table own_table
-returns-in-Table c = grind (arith, common_steps)
+returns-in-Some-Table c = grind (arith, common_steps)
 
-pub returns-in-Matrix : goal.returns-in-Matrix
+pub returns-in_default : goal.returns-in_default
 unfolding named_table own_table
-returns-in-Matrix c = grind (arith, common_steps)
+returns-in_default c = grind (arith, common_steps)
 
-pub returns-in-Generator : goal.returns-in-Generator
+pub returns-in_default-2 : goal.returns-in_default-2
 unfolding named_table own_table
-returns-in-Generator c = grind (arith, common_steps)
-
-pub returns-in-Missing : goal.returns-in-Missing
-unfolding named_table own_table
-returns-in-Missing c = grind (arith, common_steps)
+returns-in_default-2 c = grind (arith, common_steps)

@@ -2,28 +2,23 @@
 use mathlib.Core.Path.{sym, ◌∙◌}
 use Rattle.order.specs.Reader.{allowed}
 use Rattle.order.specs.Grammar.{ingredient_number}
-use Rattle.order.proofs.Answers.{number_value, number_refused, times_on, times_refused, times_done}
+use Rattle.order.proofs.Answers.{number_value, number_refused, passed_on, times_on, times_refused, times_done}
 use Rattle.list_operands.proofs.operand_numbers.ingredient_numbers.Goals as goal
 
-pub returns-in-Refused : goal.returns-in-Refused
-returns-in-Refused c =
-    let a = c.args in
-    let at_loop = c.loop-left in
-    let e = number_refused _ (sym c.ingredient_number.ensures ∙ c.in-Refused.is) in
-    sym (times_refused (allowed ingredient_number) a.list.now at_loop.c.at at_loop.left c.loop-left-test.true e)
-    ∙ at_loop.invariant
+pub returns-in_err-c : goal.returns-in_err-c
+returns-in_err-c c =
+    let e = number_refused _ (sym c.ingredient_number.ensures ∙ c.in_err-c.was) in
+    passed_on c.from_residual.ensures.1
+    (sym (times_refused (allowed ingredient_number) c.args.list.now c.loop.c.at c.args.n c.loop.counter c.loop-test.true e)
+    ∙ c.loop.invariant)
 
-pub loop-left-preserved : goal.loop-left-preserved
-loop-left-preserved c =
-    let a = c.args in
-    let at_loop = c.loop-left in
-    let e = number_value _ (sym c.ingredient_number.ensures ∙ c.in-Is.is) in
-    sym (times_on (allowed ingredient_number) a.list.now at_loop.c.at at_loop.left c.loop-left-test.true e)
-    ∙ at_loop.invariant
+pub loop-preserved : goal.loop-preserved
+loop-preserved c =
+    let e = number_value _ (sym c.ingredient_number.ensures ∙ c.in_ok-c.was) in
+    sym (times_on (allowed ingredient_number) c.args.list.now c.loop.c.at c.args.n c.loop.counter c.loop-test.true e)
+    ∙ c.loop.invariant
 
 pub returns : goal.returns
 returns c =
-    let a = c.args in
-    let at_loop = c.loop-left in
-    sym (times_done (allowed ingredient_number) a.list.now at_loop.c.at at_loop.left c.loop-left-test.false)
-    ∙ at_loop.invariant
+    sym (times_done (allowed ingredient_number) c.args.list.now c.loop.c.at c.args.n c.loop.counter c.loop-test.false)
+    ∙ c.loop.invariant
