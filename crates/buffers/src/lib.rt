@@ -14,14 +14,17 @@ pub fn put_byte(buf: &mut [u8], at: usize, byte: u8) -> usize
     at + 1
 }
 
-// Some bytes.
+// Some bytes. They are put one by one: `copy_from_slice` takes longer for few, and the archive for C would need
+// `memmove` from outside.
 pub fn put_bytes(buf: &mut [u8], at: usize, bytes: &[u8]) -> usize
     requires { at + length bytes.now ≤ length buf.old }
     ensures { Put buf.old at bytes.now buf.new result }
 {
-    let end = at + bytes.len();
-    buf[at..end].copy_from_slice(bytes);
-    end
+    let mut place = at;
+    for byte in bytes {
+        place = put_byte(buf, place, *byte);
+    }
+    place
 }
 
 // Some numbers that fit in a byte each.

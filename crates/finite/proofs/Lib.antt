@@ -6,7 +6,6 @@ pub mod Greatest
 pub mod Lists
 pub mod Digits
 pub mod Fits
-pub mod Rows
 pub mod Tabulated
 pub mod Ordinals
 pub mod PairOrder

@@ -57,9 +57,11 @@ fn tally_differences(
     requires cleared { Cleared counters.old }
     ensures { Tallied counters.new rows (row_difference (matrix_of entries.now rows columns p) first second) }
 {
-    for row in entries[..rows * columns].chunks_exact(columns) {
-        let x = row[first] as usize;
-        let y = row[second] as usize;
+    // By index: over `chunks_exact` the check of a matrix takes 1.2 times the instructions.
+    for row in 0..rows {
+        let start = row * columns;
+        let x = entries[start + first] as usize;
+        let y = entries[start + second] as usize;
         let key = differences[x * p + y] as usize;
         counters[key] += 1;
     }
