@@ -4,15 +4,16 @@ use mathlib.Core.Path.{◌≡◌, refl, sym, ◌∙◌, ap, ap₂}
 use mathlib.Core.Logic.{◌↔◌}
 use mathlib.Core.Bool.{Bool, true, false, cond, ◌&&◌, true≢false, not}
 use mathlib.Core.List.{List, [], ◌∷◌}
-use Prim.Native.Nat.{ℕ, zero, suc, ◌-◌, ◌≤◌}
+use Prim.Native.Nat.{ℕ, zero, suc, ◌+◌, ◌-◌, ◌≤◌, ◌<◌}
+use native.Mathlib.Numerals.{add-one}
 use native.Mathlib.Omega.{arith}
-use borrow.Author.Tests.{eq-eqb, eqb-true, ltb-false}
+use borrow.Author.Tests.{eq-eqb, ne_eqb, eqb-true, ltb-false}
 use lib.Dec.{eqb, ltb}
-use lib.ListN.{length, take, drop, replicate, length-drop}
+use lib.ListN.{length, get_or, take, drop, replicate, length-drop, drop_of_length-le}
 use lib.Pointwise.{pointwise}
-use lib.Seq.{take_all}
+use lib.Seq.{drop-cons, take_all}
 use Rattle.std.specs.Prelude.{Option, Some, None}
-use Rattle.std.specs.List.{list_all, position, position_or_len}
+use Rattle.std.specs.List.{position, position_or_len}
 use Rattle.std.specs.Option.{unwrap_or}
 use Rattle.std.proofs.lemmas.List.Sums.{prefix_len-le-length}
 use Rattle.std.proofs.lemmas.List.Recursion.{is_position_or_len}
@@ -70,11 +71,19 @@ same_equal (b ∷ bs) (c ∷ cs) e =
 pub same_iff : (text other : List ℕ) → (same_bytes text other ≡ true) ↔ (text ≡ other)
 same_iff text other = (same_equal text other, λ e. rw e (same_self other))
 
--- Whether all bytes are zero, as std says it.
-pub zero_is : (bytes : List ℕ) → all_zero bytes ≡ list_all (λ b. eqb b 0) bytes
-unfolding all_zero
-zero_is [] = refl
-zero_is (b ∷ bs) = ap (λ t. eqb b 0 && t) (zero_is bs)
+-- Zeros from a place on.
+module _ (bytes : List ℕ) (at : ℕ) where
+  pub zero_later : at < length bytes → get_or bytes at 0 ≡ 0 → all_zero (drop at bytes) ≡ all_zero (drop (at + 1) bytes)
+  unfolding all_zero
+  zero_later h e = rw (add-one, drop-cons bytes at 0, eq-eqb _ _ e)
+
+  pub no_zero_here : at < length bytes → (get_or bytes at 0 ≡ 0 → ⊥) → all_zero (drop at bytes) ≡ false
+  unfolding all_zero
+  no_zero_here h e = rw (drop-cons bytes at 0, ne_eqb _ _ e)
+
+  pub zero_end : length bytes ≤ at → all_zero (drop at bytes) ≡ true
+  unfolding all_zero
+  zero_end h = rw (drop_of_length-le bytes h)
 
 pub zeros_zero : (n : ℕ) → all_zero (replicate n 0) ≡ true
 unfolding all_zero

@@ -18,9 +18,15 @@ pub fn same(text: &[u8], other: &[u8]) -> bool
     text == other
 }
 
-// Whether all bytes from a place on are zero.
+// Whether all bytes from a place on are zero. They are gone through by index, so that the compiler can have several
+// compared at once.
 pub fn zero_from(bytes: &[u8], start: usize) -> bool
     ensures { result ≡ all_zero (drop start bytes.now) }
 {
-    bytes.iter().skip(start).all(|b| *b == 0)
+    for at in start..bytes.len() {
+        if bytes[at] != 0 {
+            return false;
+        }
+    }
+    true
 }
