@@ -14,7 +14,7 @@ use charges::Quote;
 use charging::charge_sheet;
 use input::scan_input;
 use std::io;
-use stored_calls::{long_number_at, number_at};
+use stored_calls::{least, long_number_at, number_at};
 use stored_sheets::{StoredSheet, repeat, sheet_at};
 
 fn main(rt: HostRuntime) -> io::Result<()> {
@@ -31,7 +31,7 @@ fn answer_calls(rt: &impl Print, list: &[u16], count: usize) -> io::Result<()>
     requires { length list.now ≡ 32768 }
 {
     let mut at = 0;
-    while at < count.min(32768) {
+    while at < least(count, 32768) {
         at = answer_call(rt, list, at);
     }
     Ok(())
@@ -42,7 +42,7 @@ fn answer_call(rt: &impl Print, list: &[u16], at: usize) -> usize
     requires { at < 32768 }
     ensures { at < result }
 {
-    let priced = number_at(list, at + 6).min(255);
+    let priced = least(number_at(list, at + 6), 255);
     let sheet = sheet_at(list, at + 7 + 2 * priced);
     match make_call(rt, list, at, priced, sheet) {
         Ok(()) => {}

@@ -15,7 +15,7 @@ use printing::plan_and_put;
 use record_texts::{Judged, Lengths};
 use report::put_refused;
 use sheets::answer::{Answer, Refusal};
-use stored_calls::long_number_at;
+use stored_calls::{least, long_number_at};
 use whole_text::scan;
 use words::BadWord;
 
@@ -90,9 +90,9 @@ fn judge_list(list: &[u16], stored: &[u8], lengths: Lengths) -> Judged
     let mut table = [170u8; 66048];
     let mut levels = [187u8; 256];
     let mut scratch = [204u8; 66048];
-    let a = lengths.table.min(66048);
-    let b = lengths.levels.min(256);
-    let c = lengths.scratch.min(66048);
+    let a = least(lengths.table, 66048);
+    let b = least(lengths.levels, 256);
+    let c = least(lengths.scratch, 66048);
     judge_in(
         list,
         stored,

@@ -13,7 +13,7 @@ ghost use Rattle.std.specs.Prelude.{◌≡◌, ◌≤◌, ◌<◌, length};
 use input::scan_input;
 use paging::print_page;
 use std::io;
-use stored_calls::number_at;
+use stored_calls::{least, number_at};
 use stored_sheets::{StoredSheet, repeat, sheet_at};
 
 fn main(rt: HostRuntime) -> io::Result<()> {
@@ -30,7 +30,7 @@ fn answer_calls(rt: &impl Print, list: &[u16], count: usize) -> io::Result<()>
     requires { length list.now ≡ 32768 }
 {
     let mut at = 0;
-    while at < count.min(32768) {
+    while at < least(count, 32768) {
         at = answer_call(rt, list, at);
     }
     Ok(())
@@ -41,7 +41,7 @@ fn answer_call(rt: &impl Print, list: &[u16], at: usize) -> usize
     requires { at < 32768 }
     ensures { at < result }
 {
-    let room = number_at(list, at + 3).min(8192);
+    let room = least(number_at(list, at + 3), 8192);
     let sheet = sheet_at(list, at + 4);
     match make_call(rt, list, at, sheet, room) {
         Ok(()) => {}
@@ -147,5 +147,6 @@ fn write_page(rt: &impl Print, bytes: &[u8]) -> io::Result<()> {
 
 // How many bytes from a place on are not zero.
 fn count_others(bytes: &[u8], start: usize) -> usize {
-    bytes.iter().skip(start).filter(|byte| **byte != 0).count()
+    let from = start.min(bytes.len());
+    bytes[from..].iter().filter(|byte| **byte != 0).count()
 }

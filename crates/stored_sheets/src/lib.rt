@@ -5,7 +5,7 @@ ghost use Rattle.std.specs.Prelude.{◌≡◌, ℕ, ◌+◌, ◌≤◌, ◌<◌,
 ghost use Rattle.stored_sheets.specs.Repeated.{repeated};
 ghost use Rattle.stored_sheets.specs.StoredSheets.{stored_sheet};
 
-use stored_calls::number_at;
+use stored_calls::{least, number_at};
 
 // Fills a buffer with some numbers of a list, each modulo 256, over and over; with none it stays as it is.
 pub fn repeat(list: &[u16], start: usize, count: usize, bytes: &mut [u8])
@@ -39,10 +39,10 @@ pub fn sheet_at(list: &[u16], at: usize) -> StoredSheet
     ensures levels_value { (result.levels ≡ at + 1) × (result.cells ≡ result.levels + result.counts + 3) }
 {
     let levels = at + 1;
-    let counts = number_at(list, at).min(255);
+    let counts = least(number_at(list, at), 255);
     let shape = levels + counts;
-    let bytes = (number_at(list, shape) * number_at(list, shape + 1)).min(65536);
-    let given = number_at(list, shape + 2).min(4096);
+    let bytes = least(number_at(list, shape) * number_at(list, shape + 1), 65536);
+    let given = least(number_at(list, shape + 2), 4096);
     StoredSheet {
         levels,
         counts,

@@ -11,6 +11,7 @@ ghost use Rattle.std.specs.Prelude.{◌≤◌, ◌<◌, length};
 use decimals::put_signed;
 use input::scan_input;
 use std::io;
+use stored_calls::least;
 use written_check::{check_numbers, check_written};
 use written_table::TableCheck;
 
@@ -24,7 +25,7 @@ fn main(rt: HostRuntime) -> io::Result<()> {
 
 // Answers the calls that so many numbers at the front of a list hold.
 fn answer_first(rt: &impl Print, list: &[u16], count: usize) -> io::Result<()> {
-    let end = count.min(list.len());
+    let end = least(count, list.len());
     answer_calls(rt, &list[..end])
 }
 
@@ -44,7 +45,7 @@ fn answer_call(rt: &impl Print, list: &[u16], at: usize) -> usize
     ensures { (at < result) × (result ≤ length list.now) }
 {
     let start = at + 1;
-    let end = start + wide(list[at]).min(list.len() - start);
+    let end = start + least(wide(list[at]), list.len() - start);
     match write_check(rt, check_written(&list[start..end])) {
         Ok(()) => {}
         Err(_) => {}

@@ -8,9 +8,9 @@ use Rattle.judging.proofs.judge_list.Goals as goal
 
 pub returns : goal.returns
 returns c =
-    let first = c.min-a.ensures in
-    let second = c.min-b.ensures in
-    let third = c.min-c.ensures in
+    let first = c.least-a.ensures in
+    let second = c.least-b.ensures in
+    let third = c.least-c.ensures in
     judged_alike _ _ (length-take-le _ _ (rw length-replicate (omega (arith, first))) ∙ first)
     (length-take-le _ _ (rw length-replicate (omega (arith, second))) ∙ second)
     (length-take-le _ _ (rw length-replicate (omega (arith, third))) ∙ third)
