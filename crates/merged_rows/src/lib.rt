@@ -43,7 +43,7 @@ pub fn merge_row(
     let mut place = at;
     let mut column = 0;
     let mut stop = stops[0] as usize;
-    // From one stretch to the next, past the member between them: a `for` over the columns would put byte by byte.
+    // From one stretch to the next, past the member between them: a `for` over the columns would ask each for its role.
     while stop < row.len() {
         place = put_bytes(buf, place, &row[column..stop]);
         place = put_member(buf, place, roles[stop], merged);
